@@ -1,4 +1,5 @@
 -- Every bracketing and every order of some items.
+use mathlib.Core.Path.{_≡_}
 use mathlib.Core.List.{List, [], _∷_, _++_, List·Permᴰ}
 
 -- items in brackets; an empty bracket stands for nothing
@@ -22,3 +23,7 @@ joinedBy join neutral (pair s t) = join (joinedBy join neutral s) (joinedBy join
 -- the same items in another order
 abbrev pub Reordered : {X : Type 0} → List X → List X → Type 0
 Reordered xs ys = List·Permᴰ xs ys
+
+-- every bracketing of every order of the items comes to r
+abbrev pub EveryWay : {X : Type 0} → (X → X → X) → X → List X → X → Type 0
+EveryWay join neutral xs r = (t : Bracketed _) → Reordered (itemsOf t) xs → joinedBy join neutral t ≡ r

@@ -1,7 +1,7 @@
 //! What can be joined in any order and any bracketing.
 ghost use mathlib.Core.Path.{_≡_};
 ghost use Rattle.std.specs.Iters.{folded};
-ghost use Rattle.join.specs.Orders.{Bracketed, itemsOf, joinedBy, Reordered};
+ghost use Rattle.join.specs.Orders.{EveryWay};
 
 /// A join, in algebra a commutative monoid: it has a neutral item, and the order and the bracketing of the items don't matter.
 pub trait Join: Sized {
@@ -22,14 +22,22 @@ pub trait Join: Sized {
         ensures { λ _. ⌜ now (self .exit) ≡ joined (now (self .entry)) (now (other .entry)) ⌝ };
 }
 
-/// All items joined, from the left to the right; every bracketing of every order of them comes to the same.
-pub fn fold<J: Join>(items: &[J]) -> J
+// The items joined one after the other.
+fn left_to_right<J: Join>(items: &[J]) -> J
     ensures value { λ r. ⌜ r ≡ folded joined neutral (now (items .entry)) ⌝ }
-    ensures every { λ r. ⌜ ((t : Bracketed J) → Reordered (itemsOf t) (now (items .entry)) → joinedBy joined neutral t ≡ r) ⌝ }
+    ensures every { λ r. ⌜ EveryWay joined neutral (now (items .entry)) r ⌝ }
 {
     let mut all = J::neutral();
     for item in items {
         all.join(item);
     }
     all
+}
+
+/// All items joined, from the left to the right; every bracketing of every order of them comes to the same.
+pub fn fold<J: Join>(items: &[J]) -> J
+    ensures value { λ r. ⌜ r ≡ folded joined neutral (now (items .entry)) ⌝ }
+    ensures every { λ r. ⌜ EveryWay joined neutral (now (items .entry)) r ⌝ }
+{
+    left_to_right(items)
 }

@@ -5,20 +5,16 @@ ghost use Rattle.numbers.specs.Theorems.{OneNearest, OrderedOutcomes, HeldRema
 
 pub(crate) fn one_nearest()
     ensures { λ _. ⌜ ((f : Format) → OneNearest f) ⌝ }
-{
-}
+{}
 
 pub(crate) fn ordered_outcomes()
     ensures { λ _. ⌜ ((f : Format) → OrderedOutcomes f) ⌝ }
-{
-}
+{}
 
 pub(crate) fn held_remainder()
     ensures { λ _. ⌜ ((f : Format) → HeldRemainder f) ⌝ }
-{
-}
+{}
 
 pub(crate) fn lawful_coding()
     ensures { λ _. ⌜ ((k : Coding) → LawfulCoding k) ⌝ }
-{
-}
+{}

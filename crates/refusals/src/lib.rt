@@ -63,7 +63,8 @@ impl Refusal {
         ensures { λ r. ⌜ r ≡ told (now (self .entry)) .place ⌝ }
     {
         match self {
-            Refusal::SlotNotANumber(at) | Refusal::NotAPlan(at) | Refusal::RegisterTooLarge(at) => *at,
+            Refusal::SlotNotANumber(at) | Refusal::NotAPlan(at) | Refusal::RegisterTooLarge(at) =>
+                *at,
             _ => 0,
         }
     }

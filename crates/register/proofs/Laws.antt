@@ -44,7 +44,7 @@ same a b e j = record {
 limbs-are : (r : Register) → limbsOf 34 (bits r) ≡ r .limbs
 limbs-are r = ap (λ n. limbsOf n (bits r)) (sym (r .long)) ∙ limbsOf-natOf (r .limbs) (r .small)
 
-pub same-value : (a b : Register) → value a ≡ value b → a ≡ b
+same-value : (a b : Register) → value a ≡ value b → a ≡ b
 same-value a b e =
     let number : bits a ≡ bits b = sym (residue-signed half half-pos (bits a) (whole-lt a)) ∙ ap (residue (2 * half)) e ∙ residue-signed half half-pos (bits b) (whole-lt b) in
     same a b (sym (limbs-are a) ∙ ap (limbsOf 34) number ∙ limbs-are b)
@@ -52,6 +52,13 @@ same-value a b e =
 pub value-of : (z : ℤ) → value (registerOf z) ≡ wrap z
 unfolding registerOf wrapAt
 value-of z = ap (λ n. signedAt half n) (natOf-limbsOf 34 (residue (2 * half) z) (rw whole-is (residue-lt half half-pos z)))
+
+pub holds : (r : Register) (z : ℤ) → value r ≡ wrap z → r ≡ registerOf z
+holds r z e = same-value _ _ (e ∙ sym (value-of z))
+
+-- what differs by a multiple of the width is the same register
+pub registerOf-wrap : (z : ℤ) → registerOf (wrap z) ≡ registerOf z
+registerOf-wrap z = same-value _ _ (value-of (wrap z) ∙ ap wrap (sym (+ℤ-idr (wrap z))) ∙ wrap-left half half-pos z (pos 0) ∙ ap wrap (+ℤ-idr z) ∙ sym (value-of z))
 
 pub plus-assoc : (a b c : Register) → plus (plus a b) c ≡ plus a (plus b c)
 plus-assoc a b c =

@@ -1,10 +1,11 @@
 -- A register as a whole.
 use mathlib.Core.Path.{_≡_, refl, sym, ap, _∙_, subst}
 use Prim.Native.Nat.{ℕ, _+_, _*_, _^_, _<_, _≤_}
+use native.Mathlib.Nat.{lt-of-lt-of-le}
 use native.Mathlib.Omega.{arith}
 use lib.IntN.{ℤ, pos, negℤ, _+ℤ_, _-ℤ_}
 use lib.ListN.{length, getD, set, length-set}
-use lib.Pow.{pow-pos}
+use lib.Pow.{pow-pos, pow-mono}
 use Rattle.register.specs.Limbs.{natOf}
 use Rattle.register.specs.Value.{bits}
 use Rattle.register.specs.Wrap.{half, valueOf, wrap}
@@ -26,6 +27,11 @@ limb r i = getD (r .limbs) i 0
 
 pub whole-lt : (r : Register) → bits r < 2 * half
 whole-lt r = subst (λ n. bits r < n) (ap (λ n. 2 ^ (64 * n)) (r .long) ∙ whole-is) (natOf-lt (r .limbs) (r .small))
+
+-- one limb's value fits
+pub limb-lt : (low : ℕ) → low < 2 ^ 64 → low + 0 < 2 * half
+unfolding half
+limb-lt low l = lt-of-lt-of-le (omega arith) (pow-mono {i = 64} {j = 2176} (omega arith))
 
 -- the register with another limb at i
 abbrev pub put : (r : Register) (i v : ℕ) → v < 2 ^ 64 → Register

@@ -23,7 +23,7 @@ limbsOf-small zero v k = omega arith
 limbsOf-small (suc n) v zero = omega arith
 limbsOf-small (suc n) v (suc k) = limbsOf-small n (v / 2 ^ 64) k
 
--- the register whose value is z, wrapped
+-- the register that holds z, wrapped at its width: it tells every limb
 unfoldable pub registerOf : ℤ → Register
 registerOf z = let n = residue (2 * half) z in record { limbs = limbsOf 34 n; long = length-limbsOf 34 n; small = limbsOf-small 34 n }
 

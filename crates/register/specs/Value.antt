@@ -1,5 +1,4 @@
 -- What a register and a scaled number mean.
-use mathlib.Core.Path.{_≡_}
 use Prim.Native.Nat.{ℕ}
 use lib.IntN.{ℤ}
 use Rattle.register.specs.Limbs.{natOf}
@@ -17,7 +16,3 @@ bits r = natOf (r .limbs)
 
 abbrev pub meant : Scaled → ℤ
 meant s = scaled (s .negative) (s .magnitude) (s .shift)
-
--- registers of one value are one register, limb for limb
-abbrev pub Whole : Type 0
-Whole = (a b : Register) → value a ≡ value b → a ≡ b

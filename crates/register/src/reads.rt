@@ -1,4 +1,4 @@
-//! Reading a register for rounding.
+//! Reading a register limb by limb.
 ghost use mathlib.Core.Path.{_≡_};
 ghost use Prim.Native.Nat.{ℕ, _+_, _-_, _*_, _/_, _%_, _^_, _<_, _≤_};
 ghost use lib.Dec.{ltb};
@@ -17,26 +17,27 @@ impl Register {
         if i < 34 { self.limbs[i] } else { 0 }
     }
 
-    /// Whether the value is below 0.
-    pub fn is_negative(&self) -> bool
+    pub(crate) fn top_bit(&self) -> bool
         ensures { λ r. ⌜ r ≡ ltZ (value (now (self .entry))) (pos 0) ⌝ }
     {
         self.limbs[33] > 0x7fff_ffff_ffff_ffff
     }
 
-    /// The register's magnitude, whose bits are read with no sign.
-    pub fn magnitude(&self) -> Register
+    // The bits of the magnitude; those of the least value are its own.
+    pub(crate) fn unsigned(&self, negative: bool) -> Register
+        requires { ⌜ negative ≡ ltZ (value (now self)) (pos 0) ⌝ }
         ensures { λ r. ⌜ bits r ≡ natAbs (value (now (self .entry))) ⌝ }
     {
-        if self.is_negative() {
-            self.negated()
+        if negative {
+            let mut opposite = Register::of_limb(0);
+            opposite.subtract_limbs(self);
+            opposite
         } else {
             *self
         }
     }
 
-    /// The 64 bits from bit `at` on, with no sign.
-    pub fn window(&self, at: u32) -> u64
+    pub(crate) fn bits_from(&self, at: u32) -> u64
         ensures { λ r. ⌜ r ≡ bits (now (self .entry)) / 2 ^ at % 2 ^ 64 ⌝ }
     {
         let i = (at / 64) as usize;
@@ -46,8 +47,7 @@ impl Register {
         ((pair >> (at % 64)) % 0x1_0000_0000_0000_0000) as u64
     }
 
-    /// Whether a bit below bit `at` is set.
-    pub fn any_below(&self, at: u32) -> bool
+    pub(crate) fn low_bits(&self, at: u32) -> bool
         ensures { λ r. ⌜ r ≡ ltb 0 (bits (now (self .entry)) % 2 ^ at) ⌝ }
     {
         let whole = (at / 64) as usize;
@@ -59,8 +59,7 @@ impl Register {
         self.limb(whole) % (1 << (at % 64)) > 0
     }
 
-    /// The number of bits, with no sign.
-    pub fn bit_length(&self) -> u32
+    pub(crate) fn highest_bit(&self) -> u32
         ensures { λ r. ⌜ LeastBits (bits (now (self .entry))) r ⌝ }
     {
         for i in (0..34).rev() {
@@ -71,15 +70,14 @@ impl Register {
         0
     }
 
-    /// The bits in units of 2^at, rounded to the nearest whole number and from halfway to an even one.
-    pub fn rounded_at(&self, at: u32) -> u64
+    pub(crate) fn rounded(&self, at: u32) -> u64
         requires place { ⌜ 0 < at ⌝ }
         requires size { ⌜ bits (now self) / 2 ^ at < 2 ^ 63 ⌝ }
         ensures { λ r. ⌜ Rounded (bits (now (self .entry))) (2 ^ at) r ⌝ }
     {
-        let whole = self.window(at);
-        let half = self.window(at - 1) % 2;
-        let more = self.any_below(at - 1);
+        let whole = self.bits_from(at);
+        let half = self.bits_from(at - 1) % 2;
+        let more = self.low_bits(at - 1);
         let up = half.min((more as u64).max(whole % 2));
         whole + up
     }

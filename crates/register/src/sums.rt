@@ -1,12 +1,12 @@
-//! Sums, which wrap at the register's width.
+//! Sums limb by limb, which wrap at the register's width.
 ghost use mathlib.Core.Path.{_≡_};
 ghost use Prim.Native.Nat.{ℕ, _+_, _-_, _*_, _/_, _%_, _^_, _<_, _≤_};
 ghost use lib.ListN.{length, getD, set};
 ghost use lib.IntN.{ℤ, pos, _+ℤ_, _-ℤ_, negℤ};
-ghost use Rattle.register.specs.Value.{value, meant, Whole};
-ghost use Rattle.register.specs.Wrap.{wrap};
+ghost use Rattle.register.specs.Value.{value};
+ghost use Rattle.register.specs.Sum.{registerOf};
+ghost use Rattle.register.specs.Wrap.{wrap, scaled};
 use crate::Register;
-use crate::Scaled;
 
 // The sum of two limbs and a carry: its low limb, and the carry out of it.
 fn carried(a: u64, b: u64, carry: u64) -> (u64, u64)
@@ -45,17 +45,17 @@ fn spread(magnitude: u64, by: u32) -> (u64, u64)
 }
 
 impl Register {
-    /// The register of value 0.
-    pub fn zero() -> Register
-        ensures { λ r. ⌜ value r ≡ pos 0 ⌝ }
+    // The register of one limb's value.
+    pub(crate) fn of_limb(low: u64) -> Register
+        ensures { λ r. ⌜ r ≡ registerOf (pos low) ⌝ }
     {
-        Register { limbs: [0; 34] }
+        let mut limbs = [0; 34];
+        limbs[0] = low;
+        Register { limbs }
     }
 
-    /// Adds another register. A register is its value and nothing else, so this tells every limb, here and in the calls below.
-    pub fn add(&mut self, other: &Register)
-        ensures value { λ _. ⌜ value (now (self .exit)) ≡ wrap (value (now (self .entry)) +ℤ value (now (other .entry))) ⌝ }
-        ensures whole { λ _. ⌜ Whole ⌝ }
+    pub(crate) fn add_limbs(&mut self, other: &Register)
+        ensures { λ _. ⌜ now (self .exit) ≡ registerOf (value (now (self .entry)) +ℤ value (now (other .entry))) ⌝ }
     {
         let mut carry = 0;
         for i in 0..34 {
@@ -65,9 +65,8 @@ impl Register {
         }
     }
 
-    /// Takes another register away.
-    pub fn subtract(&mut self, other: &Register)
-        ensures { λ _. ⌜ value (now (self .exit)) ≡ wrap (value (now (self .entry)) -ℤ value (now (other .entry))) ⌝ }
+    pub(crate) fn subtract_limbs(&mut self, other: &Register)
+        ensures { λ _. ⌜ now (self .exit) ≡ registerOf (value (now (self .entry)) -ℤ value (now (other .entry))) ⌝ }
     {
         let mut borrow = 0;
         for i in 0..34 {
@@ -75,15 +74,6 @@ impl Register {
             self.limbs[i] = rest;
             borrow = out;
         }
-    }
-
-    /// The opposite; that of the least value is the least value again.
-    pub(crate) fn negated(&self) -> Register
-        ensures { λ r. ⌜ value r ≡ wrap (negℤ (value (now (self .entry)))) ⌝ }
-    {
-        let mut r = Register::zero();
-        r.subtract(self);
-        r
     }
 
     // Adds a carry at the place of limb `from`, as far as it goes.
@@ -142,13 +132,14 @@ impl Register {
         self.borrow_from(at + 2, out);
     }
 
-    /// Adds a scaled number: writes the two limbs that it reaches, and goes on only as far as a carry or a borrow does.
-    pub fn add_scaled(&mut self, number: Scaled)
-        ensures { λ _. ⌜ value (now (self .exit)) ≡ wrap (value (now (self .entry)) +ℤ meant number) ⌝ }
+    // Adds the magnitude times 2^shift, or takes it away where it is negative.
+    pub(crate) fn add_shifted(&mut self, negative: bool, magnitude: u64, shift: u32)
+        requires { ⌜ shift < 2112 ⌝ }
+        ensures { λ _. ⌜ now (self .exit) ≡ registerOf (value (now (self .entry)) +ℤ scaled negative magnitude shift) ⌝ }
     {
-        let at = (number.shift / 64) as usize;
-        let (low, high) = spread(number.magnitude, number.shift % 64);
-        if number.negative {
+        let at = (shift / 64) as usize;
+        let (low, high) = spread(magnitude, shift % 64);
+        if negative {
             self.lower(at, low, high);
         } else {
             self.raise(at, low, high);
