@@ -1,0 +1,4 @@
+pub mod Logbook
+pub mod Book
+pub mod Agree
+pub mod Fed
