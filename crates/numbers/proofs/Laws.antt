@@ -11,7 +11,7 @@ use Rattle.numbers.specs.Nearest as format
 use Rattle.numbers.specs.Nearest.{nearest, remainder}
 use Rattle.numbers.specs.Outcome.{Outcome, below, above, number, told-by, AtMost}
 use Rattle.numbers.specs.Coding.{Coding, Codes, total, opposite, adder, outcome}
-use Rattle.numbers.specs.Lawful.{NoneNearer, Added, Lawful}
+use Rattle.numbers.specs.Lawful.{NoneNearer, Lawful}
 use Rattle.numbers.proofs.Scales.{held-le-top}
 use Rattle.numbers.proofs.Signed.{abs-neg, held-zero, nearest-held, nearest-near}
 use Rattle.numbers.proofs.Remainder.{remainder-held, remainder-le-left, remainder-le-right, adds-up}
@@ -32,20 +32,9 @@ module _ (k : Coding) (c : Codes k) where
         near = λ w t. subst (λ (z : ℤ). far z v ≤ far (k .worth w) v) (sym (c .back (nearest f v) (nearest-held f v))) (nearest-near f v (k .worth w) (c .held w t));
       }
 
-  adds : (p q : ℕ) → T (k .number p) → T (k .number q)
-      → Added (k .number) (k .worth) (opposite k) (adder k) (outcome k) p q (adder k p q .0) (adder k p q .1)
-  adds p q s t =
-      let a = k .worth p in
-      let b = k .worth q in
-      let h : Holds f (remainder f a b) = remainder-held f a b (c .held p s) (c .held q t) in
-      let e : k .worth (adder k p q .1) ≡ remainder f a b = c .back (remainder f a b) h in
-      record {
-        sum = nearest-none (a +ℤ b);
-        rest = c .made (remainder f a b) h;
-        left = le-trans (le-of-eq (ap natAbs e)) (remainder-le-left f a b (c .held q t));
-        right = le-trans (le-of-eq (ap natAbs e)) (remainder-le-right f a b (c .held p s));
-        exact = ap₂ _+ℤ_ (c .back (nearest f (a +ℤ b)) (nearest-held f (a +ℤ b))) e ∙ adds-up f a b;
-      }
+  -- the remainder is held, so its pattern has its worth
+  remainder-worth : (p q : ℕ) → T (k .number p) → T (k .number q) → k .worth (adder k p q .1) ≡ remainder f (k .worth p) (k .worth q)
+  remainder-worth p q s t = c .back _ (remainder-held f (k .worth p) (k .worth q) (c .held p s) (c .held q t))
 
   -- a number that is read is the pattern of the nearest
   read-is : (v : ℤ) (p : ℕ) → outcome k v ≡ number p → p ≡ k .pattern (nearest f v)
@@ -78,13 +67,21 @@ module _ (k : Coding) (c : Codes k) where
   pub lawful : Lawful (k .number) (k .worth) (opposite k) (adder k) (outcome k)
   lawful =
       record {
-        zeroNumber = subst (λ (p : ℕ). T (k .number p)) (c .none) (c .made (pos 0) (held-zero f));
-        zeroWorth = ap (k .worth) (sym (c .none)) ∙ c .back (pos 0) (held-zero f);
-        low = λ p t. lt-of-le-of-lt (held-le-top f (c .held p t)) (c .low);
-        oppositeNumber = λ p t. c .made (negℤ (k .worth p)) (negated p t);
-        oppositeWorth = λ p t. c .back (negℤ (k .worth p)) (negated p t);
-        added = adds;
-        read = λ v p e. subst (NoneNearer (k .number) (k .worth) v) (sym (read-is v p e)) (nearest-none v);
-        single = λ v w p q d e s. read-is v p d ∙ ap (k .pattern) (sym (read-worth v p d) ∙ s ∙ read-worth w q e) ∙ sym (read-is w q e);
-        ordered = keeps-order;
+        zero = (subst (λ (p : ℕ). T (k .number p)) (c .none) (c .made (pos 0) (held-zero f)), ap (k .worth) (sym (c .none)) ∙ c .back (pos 0) (held-zero f));
+        boundedWorths = λ p t. lt-of-le-of-lt (held-le-top f (c .held p t)) (c .low);
+        opposites = λ p t. (c .made (negℤ (k .worth p)) (negated p t), c .back (negℤ (k .worth p)) (negated p t));
+        nearestSum = λ p q s t. nearest-none (total k p q);
+        remainderIsNumber = λ p q s t. c .made _ (remainder-held f (k .worth p) (k .worth q) (c .held p s) (c .held q t));
+        remainderIsSmall =
+            λ p q s t.
+            let e = ap natAbs (remainder-worth p q s t) in (
+              le-trans (le-of-eq e) (remainder-le-left f (k .worth p) (k .worth q) (c .held q t)),
+              le-trans (le-of-eq e) (remainder-le-right f (k .worth p) (k .worth q) (c .held p s)),
+            );
+        nothingLost =
+            λ p q s t.
+            ap₂ _+ℤ_ (c .back _ (nearest-held f (total k p q))) (remainder-worth p q s t) ∙ adds-up f (k .worth p) (k .worth q);
+        nearestOutcome = λ v p e. subst (NoneNearer (k .number) (k .worth) v) (sym (read-is v p e)) (nearest-none v);
+        onePattern = λ v w p q d e s. read-is v p d ∙ ap (k .pattern) (sym (read-worth v p d) ∙ s ∙ read-worth w q e) ∙ sym (read-is w q e);
+        order = keeps-order;
       }

@@ -1,3 +1,4 @@
 pub mod Entered
 pub mod Lines
 pub mod Hearing
+pub mod Digits

@@ -1,6 +1,7 @@
 -- What a session has heard so far, and what a line is answered and leaves.
+use mathlib.Core.Path.{_≡_}
 use mathlib.Core.List.{List, [], _∷_, _++_}
-use Prim.Native.Nat.{ℕ}
+use Prim.Native.Nat.{ℕ, _^_, _<_}
 use lib.ListN.{length}
 use Rattle.std.specs.declared.option.Option.{Option}
 use Rattle.std.specs.declared.option.Option.the-variants.{Some, None}
@@ -14,7 +15,7 @@ use Rattle.forms.specs.declared.words.KindName.{KindName}
 use Rattle.forms.specs.declared.words.KindName.the-variants.{Count}
 use Rattle.forms.specs.declared.words.Visit.{Visit}
 use Rattle.forms.specs.declared.words.Answer.{Answer}
-use Rattle.forms.specs.declared.words.Answer.the-variants.{Done, Refused}
+use Rattle.forms.specs.declared.words.Answer.the-variants.{Done, Number, Refused}
 use Rattle.session.specs.Logbook.{Logbook, blank, answerOf, after}
 
 -- no kind was told yet, or a kind and what its logbook says
@@ -75,3 +76,7 @@ entries (told n b) = length (b .left)
 
 abbrev pub ending : Book → List ℕ → List ℕ
 ending b line = unfinished line ++ end-text (entries b) 0
+
+-- a number that is answered has all its digits
+abbrev pub Shown : Type 0
+Shown = (b : Book) (line : List ℕ) (p : ℕ) → answerTo b line ≡ Number p → p < 16 ^ digits b

@@ -8,7 +8,7 @@ ghost use Rattle.std.specs.Of.Vec.{vec-items, vec-len, vec-cap};
 ghost use Rattle.std.specs.Results.{Cases as ByOk, isOk};
 ghost use Rattle.forms.specs.Replies.{answer-most, end-most};
 ghost use Rattle.session.specs.Agree.{Stands, Hears};
-ghost use Rattle.session.specs.Book.{Book, untold, reply, heard, unfinished, ending};
+ghost use Rattle.session.specs.Book.{Book, untold, reply, heard, unfinished, ending, Shown};
 ghost use Rattle.session.specs.Fed.{Plain, Cuts, Only};
 use crate::books::Books;
 use crate::session::Session;
@@ -100,6 +100,7 @@ impl Session {
         ensures fed { λ r. ⌜ ((b : Book) (line : List ℕ) → Stands (now (self .entry)) b line → ByOk r (λ _. Hears (now (self .exit)) b line (now (chunk .entry)) (vec-items (now (out .entry))) (vec-items (now (out .exit)))) (λ _. Stands (now (self .exit)) b line × (vec-items (now (out .exit)) ≡ vec-items (now (out .entry))))) ⌝ }
         ensures cuts { λ _. ⌜ Cuts ⌝ }
         ensures only { λ _. ⌜ Only ⌝ }
+        ensures shown { λ _. ⌜ Shown ⌝ }
     {
         self.make_room(chunk.len(), out)?;
         self.hear_all(chunk, out);
@@ -130,6 +131,7 @@ impl Session {
         ensures fed { λ r. ⌜ ((b : Book) (line : List ℕ) → Stands (now (self .entry)) b line → ByOk r (λ _. Hears (now (self .exit)) b line (now (chunk .entry)) (vec-items (now (out .entry))) (vec-items (now (out .exit)))) (λ _. Stands (now (self .exit)) b line × (vec-items (now (out .exit)) ≡ vec-items (now (out .entry))))) ⌝ }
         ensures cuts { λ _. ⌜ Cuts ⌝ }
         ensures only { λ _. ⌜ Only ⌝ }
+        ensures shown { λ _. ⌜ Shown ⌝ }
     {
         self.take_in(chunk, out)
     }
