@@ -1,5 +1,5 @@
 -- What an account means, and what a call answers and leaves, once for every kind.
-use mathlib.Core.Bool.{Bool, true, false, cond}
+use mathlib.Core.Bool.{cond}
 use Prim.Native.Nat.{ℕ, _+_}
 use lib.Dec.{ltb}
 use lib.IntN.{ℤ, pos, _+ℤ_, negℤ}

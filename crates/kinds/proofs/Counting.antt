@@ -1,12 +1,12 @@
 -- The count kind's meanings, by ranges: what its code computes.
-use mathlib.Core.Path.{_≡_, refl, sym, ap, ap₂, _∙_, subst}
+use mathlib.Core.Path.{_≡_, refl, sym, ap, _∙_, subst}
 use mathlib.Core.Bool.{Bool, true, false, not, _&&_, cond}
-use Prim.Native.Nat.{ℕ, zero, suc, _+_, _-_, _*_, _/_, _%_, _^_, _≤_, _<_, min}
+use Prim.Native.Nat.{ℕ, suc, _-_, _/_, _%_, _^_, _≤_, _<_, min}
 use native.Mathlib.Nat.{div-one, mod-eq-of-lt, lt-of-lt-of-le}
 use native.Mathlib.Decide.{decLe}
 use native.Mathlib.Omega.{arith}
 use borrow.Author.Differences.{ints}
-use borrow.Author.Tests.{lt-ltb, le-ltb, ltb-true, eqb-false, eqb-true}
+use borrow.Author.Tests.{lt-ltb, le-ltb, eqb-false, eqb-true}
 use lib.Dec.{T, ltb, eqb, ltb→lt, lt→ltb, lit<}
 use lib.IntN.{ℤ, pos, negsuc, negℤ, natAbs, _+ℤ_, _-ℤ_}
 use lib.Pow.{pow-mono}
@@ -15,11 +15,9 @@ use mir.Syntax.{w64}
 use mir.Val.{toZ, ofZ}
 use Rattle.std.specs.declared.result.Result.the-variants.{Ok, Err}
 use Rattle.refusals.specs.declared.Refusal.the-variants.{AboveRange, BelowRange}
-use Rattle.numbers.specs.Format.{Holds, bound, top}
 use Rattle.numbers.specs.Nearest.{nearestℕ, nearest, remainder}
-use Rattle.numbers.specs.Coding.{Codes, adder, outcome}
-use Rattle.numbers.specs.Outcome.{told-by, above, below, number}
-use Rattle.numbers.proofs.Scales.{held-le-top}
+use Rattle.numbers.specs.Coding.{Codes, outcome}
+use Rattle.numbers.specs.Outcome.{told-by, number}
 use Rattle.numbers.proofs.Signed.{nearest-held, nearest-of-held}
 use Rattle.numbers.proofs.Remainder.{remainder-le-left}
 use Rattle.numbers.proofs.Outcomes.{outcome-inside, outcome-over, outcome-under}

@@ -1,15 +1,15 @@
 -- The nearest number of a format to a magnitude: it is held, none is nearer, it keeps order, and a held number is its own.
 use mathlib.Core.Path.{_≡_, refl, sym, ap, ap₂, _∙_, subst}
 use mathlib.Core.Logic.{_⊎_, _≢_, inl, inr}
-use Prim.Native.Nat.{ℕ, zero, suc, _+_, _-_, _*_, _/_, _%_, _^_, _≤_, _<_, _∣_, min}
-use native.Mathlib.Nat.{le-trans, le-of-eq, le-of-lt, lt-of-not-le, lt-of-lt-of-le, lt-of-le-of-lt, le-antisymm, mul-le-mul-left, mul-le-mul-right, min-eq-left, min-eq-right, div-lt-iff-lt-mul, le-div-iff-mul-le, dvd-mul-left-of-dvd, dvd-trans, div-mul-cancel, div-mul-le-self, mul-div-cancel, add-mul, eq-of-mul-eq-mul-right}
+use Prim.Native.Nat.{ℕ, suc, _+_, _-_, _*_, _/_, _%_, _≤_, _<_, _∣_, min}
+use native.Mathlib.Nat.{le-trans, le-of-eq, lt-of-le-of-lt, mul-le-mul-right, min-eq-left, min-eq-right, div-lt-iff-lt-mul, le-div-iff-mul-le, dvd-mul-left-of-dvd, dvd-trans, div-mul-cancel, div-mul-le-self, mul-div-cancel, add-mul, eq-of-mul-eq-mul-right}
 use native.Mathlib.Decide.{decLe}
 use native.Mathlib.Omega.{arith}
 use lib.Ieee.Nearest.{closest}
 use Rattle.numbers.specs.Format.{Format, bound, unit, Held, top}
 use Rattle.numbers.specs.Nearest.{scaleOf, nearestℕ}
 use Rattle.numbers.proofs.Rounded.{dist, closest-near, closest-is, closest-tie}
-use Rattle.numbers.proofs.Scales.{Scaled, unit-pos, unit-mono, next, lead-lt, scaled, scaled-one, held-top, held-le-top, held-mult, held-reached, unit-dvd}
+use Rattle.numbers.proofs.Scales.{Scaled, unit-pos, next, lead-lt, scaled, scaled-one, held-top, held-le-top, held-mult, held-reached, unit-dvd}
 
 module _ (f : Format) where
   -- the rounded multiple is held, or both it and m are at the top or above

@@ -1,11 +1,11 @@
 -- Outcomes: which one a sum has, that one which is a number is nearest, and that they keep order.
-use mathlib.Core.Path.{_≡_, refl, sym, ap, _∙_, subst, subst₂}
-use mathlib.Core.Bool.{Bool, true, false, not, cond}
-use Prim.Native.Nat.{ℕ, zero, suc, _+_, _-_, _*_, _/_, _%_, _^_, _≤_, _<_}
+use mathlib.Core.Path.{_≡_, refl, sym, subst, subst₂}
+use mathlib.Core.Bool.{Bool, true, false, cond}
+use Prim.Native.Nat.{ℕ, _<_}
 use native.Mathlib.Omega.{arith}
 use borrow.Author.Differences.{ints}
-use lib.IntN.{ℤ, pos, negsuc, negℤ, natAbs, _+ℤ_, _-ℤ_}
-use lib.Signed.{leZ, _≤ℤ_, _<ℤ_, leZ-yes}
+use lib.IntN.{ℤ, pos, negℤ, natAbs}
+use lib.Signed.{leZ, _≤ℤ_}
 use Rattle.numbers.specs.Format.{Format, Nearest}
 use Rattle.numbers.specs.Nearest.{edge, nearest, outcome}
 use Rattle.numbers.specs.Outcome.{Outcome, above, below, number, AtMost}

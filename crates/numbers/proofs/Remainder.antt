@@ -6,7 +6,7 @@ use native.Mathlib.Nat.{le-trans, le-of-eq, le-refl, dvd-add, dvd-sub, div-mul-c
 use native.Mathlib.Decide.{decLe}
 use native.Mathlib.Omega.{arith}
 use borrow.Author.Differences.{ints}
-use lib.IntN.{ℤ, pos, negsuc, negℤ, natAbs, _+ℤ_, _-ℤ_}
+use lib.IntN.{ℤ, pos, negsuc, negℤ, natAbs, _+ℤ_}
 use Rattle.numbers.specs.Format.{Format, bound, unit, Held, Holds, far}
 use Rattle.numbers.specs.Nearest.{nearest, remainder}
 use Rattle.numbers.proofs.Rounded.{dist}

@@ -2,8 +2,8 @@
 use mathlib.Core.Path.{_≡_, refl, sym, ap, _∙_, subst}
 use mathlib.Core.Logic.{_⊎_, inl, inr}
 use mathlib.Core.Bool.{Bool, true, false, not}
-use Prim.Native.Nat.{ℕ, zero, suc, _+_, _-_, _*_, _/_, _%_, _^_, _≤_, _<_, _∣_, min}
-use native.Mathlib.Nat.{le-trans, le-of-eq, le-of-lt, lt-of-not-le, lt-of-lt-of-le, lt-of-le-of-lt, lt-irrefl, le-antisymm, mul-le-mul-left, mul-le-mul-right, mul-lt-mul-of-pos-right, mul-assoc, pow-succ', one-le-pow, pow-le-pow-right, add-zero, add-suc, suc-add, add-sub-of-le, mul-comm, mul-left-comm, pow-zero, mul-one, zero-add, le-refl, mul-le-mul, dvd-mul-left, lt-of-mul-lt-mul-right, min-eq-left, min-eq-right}
+use Prim.Native.Nat.{ℕ, zero, suc, _+_, _-_, _*_, _≤_, _<_, _∣_, min}
+use native.Mathlib.Nat.{le-trans, le-of-eq, le-of-lt, lt-of-not-le, lt-of-lt-of-le, lt-of-le-of-lt, lt-irrefl, le-antisymm, mul-le-mul-left, mul-lt-mul-of-pos-right, mul-assoc, pow-succ', one-le-pow, pow-le-pow-right, add-zero, add-suc, suc-add, add-sub-of-le, mul-comm, pow-zero, mul-one, zero-add, le-refl, mul-le-mul, dvd-mul-left, lt-of-mul-lt-mul-right, min-eq-left, min-eq-right}
 use native.Mathlib.Decide.{decLe}
 use native.Mathlib.Omega.{arith}
 use lib.Dec.{T, ltb, ltb→lt, nltb→le}

@@ -2,7 +2,7 @@
 use mathlib.Core.Path.{_≡_, refl, sym, ap, ap₂, _∙_, subst}
 use mathlib.Core.Logic.{_≢_}
 use Prim.Native.Nat.{ℕ, zero, suc, _/_, _%_, _≤_, min}
-use native.Mathlib.Nat.{le-trans, le-of-eq, le-antisymm, min-comm, zero-mul}
+use native.Mathlib.Nat.{le-antisymm, min-comm, zero-mul}
 use native.Mathlib.Omega.{arith}
 use borrow.Author.Differences.{ints}
 use lib.IntN.{ℤ, pos, negsuc, negℤ, natAbs, ℤ-discrete}

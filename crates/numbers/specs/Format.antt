@@ -1,7 +1,7 @@
 -- Formats of numbers: what a format holds, and which of its numbers is nearest to a whole number.
 use mathlib.Core.Path.{_≡_}
 use mathlib.Core.Logic.{_≢_}
-use Prim.Native.Nat.{ℕ, _+_, _-_, _*_, _/_, _%_, _^_, _≤_, _<_, min}
+use Prim.Native.Nat.{ℕ, _-_, _*_, _/_, _%_, _^_, _≤_, _<_, min}
 use lib.IntN.{ℤ, natAbs, _-ℤ_}
 
 -- The numbers are ± coefficient * radix ^ scale, with a coefficient below lead * radix and a scale from 0 to `scales`.

@@ -1,6 +1,6 @@
 -- What is proved of every format and every coding; the contracts in src/ carry it.
 use mathlib.Core.Path.{_≡_}
-use Prim.Native.Nat.{ℕ, _≤_, _<_}
+use Prim.Native.Nat.{_≤_, _<_}
 use lib.IntN.{ℤ, pos, negℤ, natAbs, _+ℤ_}
 use lib.Signed.{_≤ℤ_}
 use Rattle.numbers.specs.Format.{Format, Holds, Nearest}

@@ -12,7 +12,7 @@ use lib.ListN.{length, getD}
 use Rattle.register.specs.Limbs.{natOf}
 use Rattle.register.specs.Sum.{limbsOf, registerOf, zeroRegister, plus}
 use Rattle.register.specs.Value.{value, bits}
-use Rattle.register.specs.Wrap.{half, residue, signedAt, wrapAt, wrap, valueOf}
+use Rattle.register.specs.Wrap.{half, residue, signedAt, wrapAt, wrap}
 use Rattle.register.specs.declared.Register.{Register}
 use Rattle.register.proofs.Places.{weight-more}
 use Rattle.register.proofs.Whole.{half-pos, whole-is, whole-lt}

@@ -1,13 +1,10 @@
 -- Rounding from the bits at a unit, the bit below it and whether any lower bit is set.
-use mathlib.Core.Path.{_≡_, refl, sym, ap, _∙_, subst}
-use mathlib.Core.Bool.{Bool, true, false, cond}
+use mathlib.Core.Path.{_≡_, sym, ap, _∙_, subst}
 use mathlib.Core.Logic.{⊎-elim}
-use Prim.Native.Nat.{ℕ, zero, suc, _+_, _-_, _*_, _/_, _%_, _^_, _<_, _≤_, min, max}
+use Prim.Native.Nat.{ℕ, _+_, _-_, _*_, _/_, _%_, _^_, _<_, _≤_, min, max}
 use native.Mathlib.Omega.{arith}
-use native.Mathlib.Nat.{div-add-mod', mod-lt, div-div-eq-div-mul, mod-eq-of-lt, mul-comm}
-use lib.Dec.{ltb}
-use lib.Pow.{pow-pos, pow-add, mod-mod-pow}
-use borrow.Author.Tests.{lt-ltb, le-ltb}
+use native.Mathlib.Nat.{div-add-mod', div-div-eq-div-mul, mul-comm}
+use lib.Pow.{pow-add}
 use Rattle.std.proofs.shelf.Tests.{cases-lt}
 use Rattle.register.specs.Limbs.{Rounded}
 

@@ -5,12 +5,12 @@ use mathlib.Core.List.{List, [], _∷_}
 use mathlib.Core.Logic.{⊎-elim}
 use Prim.Native.Nat.{ℕ, zero, suc, _+_, _-_, _*_, _/_, _%_, _^_, _<_, _≤_, zero-le}
 use native.Mathlib.Omega.{arith}
-use native.Mathlib.Nat.{add-comm, mul-comm, mod-lt, mod-eq-of-lt, zero-mod, mul-le-mul-right, mul-assoc, mul-add-mod-self-right, suc-mul, add-zero}
+use native.Mathlib.Nat.{mul-comm, mod-eq-of-lt, zero-mod, mul-le-mul-right, mul-assoc, mul-add-mod-self-right, suc-mul, add-zero}
 use native.Mathlib.Numerals.{add-one}
 use lib.Arith.{digits-div, digits-mod, digits-lt}
 use lib.Count.{leadingZeros}
 use lib.Dec.{ltb}
-use lib.IntN.{ℤ, pos, negsuc, negℤ, natAbs}
+use lib.IntN.{pos, negsuc, negℤ, natAbs}
 use lib.ListN.{length, getD, take, drop}
 use lib.Pow.{pow-pos, pow-add, pow-mono, mod-pow-add, mod-mod-pow, field, shr-shr}
 use lib.Signed.{ltZ}
@@ -23,7 +23,7 @@ use Rattle.register.specs.Limbs.{natOf, LeastBits}
 use Rattle.register.specs.Wrap.{half, residue, signedAt, wrapAt, wrap, valueOf}
 use Rattle.register.specs.declared.Register.{Register}
 use Rattle.register.proofs.Places.{weight-more, natOf-take}
-use Rattle.register.proofs.Whole.{limb, half-pos, whole-lt, whole-is}
+use Rattle.register.proofs.Whole.{limb, half-pos, whole-lt}
 use Rattle.register.proofs.Wrapping.{residue-lt, residue-signed}
 
 weight-suc : (i : ℕ) → 2 ^ (64 * suc i) ≡ 2 ^ 64 * 2 ^ (64 * i)

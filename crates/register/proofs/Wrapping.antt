@@ -2,15 +2,15 @@
 use mathlib.Core.Path.{_≡_, refl, sym, ap, _∙_}
 use mathlib.Core.Bool.{Bool, true, false, cond}
 use mathlib.Core.Logic.{⊎-elim}
-use Prim.Native.Nat.{ℕ, suc, _+_, _-_, _*_, _/_, _%_, _^_, _<_, _≤_}
+use Prim.Native.Nat.{ℕ, suc, _+_, _-_, _*_, _/_, _%_, _<_, _≤_}
 use native.Mathlib.Omega.{arith}
 use native.Mathlib.Nat.{add-mul-mod-self-right, div-add-mod', mod-eq-of-lt, mod-lt, mul-le-mul-left, mul-le-mul-right}
 use Rattle.std.proofs.shelf.Tests.{cases-lt}
 use lib.Arith.{digits-mod}
 use lib.Dec.{ltb}
 use borrow.Author.Tests.{lt-ltb, le-ltb}
-use lib.IntN.{ℤ, pos, negsuc, _+ℤ_, _-ℤ_, negℤ, natAbs}
-use borrow.Author.Differences.{up, down, same-in, same-out, sum-is}
+use lib.IntN.{ℤ, pos, negsuc, _+ℤ_, natAbs}
+use borrow.Author.Differences.{up, down}
 use Rattle.std.proofs.shelf.Signed.{ints}
 use Rattle.register.specs.Wrap.{residue, signedAt, wrapAt}
 

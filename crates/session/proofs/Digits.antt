@@ -1,9 +1,7 @@
 -- A number that is answered is a number of its kind, and so has all its digits.
-use mathlib.Core.Path.{_≡_, refl}
-use mathlib.Core.List.{List}
+use mathlib.Core.Path.{_≡_}
 use Prim.Native.Nat.{ℕ, _^_, _<_}
 use native.Mathlib.Omega.{arith}
-use lib.IntN.{ℤ}
 use Rattle.std.specs.declared.option.Option.{Option}
 use Rattle.std.specs.declared.option.Option.the-variants.{Some, None}
 use Rattle.std.specs.declared.result.Result.{Result}
@@ -20,10 +18,9 @@ use Rattle.forms.specs.declared.words.KindName.{KindName}
 use Rattle.forms.specs.declared.words.KindName.the-variants.{Count}
 use Rattle.forms.specs.declared.words.Visit.{Visit}
 use Rattle.forms.specs.declared.words.Visit.the-variants.{Post, Withdraw, Read}
-use Rattle.forms.specs.declared.words.Answer.{Answer}
-use Rattle.forms.specs.declared.words.Answer.the-variants.{Done, Number, Refused}
+use Rattle.forms.specs.declared.words.Answer.the-variants.{Number}
 use Rattle.session.specs.Logbook.{Logbook, sumOf, accepts, doneOr, numberOr}
-use Rattle.session.specs.Book.{Book, untold, told, kindAnswer, visitAnswer, counting, Shown}
+use Rattle.session.specs.Book.{untold, told, kindAnswer, visitAnswer, counting, Shown}
 
 kind-none : {A : Type 0} (r : Option KindName) (p : ℕ) → kindAnswer r ≡ Number p → A
 kind-none None p e = let z : _≡_ {A = ℕ} 0 1 = cc in absurd (omega arith)

@@ -1,10 +1,10 @@
 -- Bytes fed one after the other: the lines that they end, and the line so far.
-use mathlib.Core.Path.{_≡_, refl, sym, ap, ap₂, subst, _∙_}
+use mathlib.Core.Path.{_≡_, refl, sym, ap, ap₂, _∙_}
 use mathlib.Core.List.{List, [], _∷_, _++_, append-assoc, append-nil}
 use Prim.Native.Nat.{ℕ}
 use native.Mathlib.Omega.{arith}
 use Rattle.session.specs.Book.{Book, reply, heard}
-use Rattle.session.specs.Fed.{Plain, AllPlain, ended, replies, heardAll, Fed, Cuts, Same, Only}
+use Rattle.session.specs.Fed.{Plain, AllPlain, ended, replies, heardAll, Fed, Cuts, Only}
 
 plain-append : (xs ys : List ℕ) → Plain xs → Plain ys → Plain (xs ++ ys)
 plain-append [] ys p q = q

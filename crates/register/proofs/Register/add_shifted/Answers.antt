@@ -1,5 +1,5 @@
-use mathlib.Core.Path.{_≡_, sym, ap, _∙_}
-use lib.IntN.{ℤ, pos, negℤ, _+ℤ_}
+use mathlib.Core.Path.{sym, ap, _∙_}
+use lib.IntN.{pos, negℤ, _+ℤ_}
 use Rattle.register.specs.Value.{value}
 use Rattle.register.specs.Wrap.{wrap, scaled}
 use Rattle.register.proofs.Laws.{holds}

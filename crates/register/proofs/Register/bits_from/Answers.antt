@@ -1,4 +1,4 @@
-use mathlib.Core.Path.{_≡_, ap₂, _∙_}
+use mathlib.Core.Path.{ap₂, _∙_}
 use Prim.Native.Nat.{ℕ, _+_, _*_, _/_, _%_, _^_}
 use Rattle.register.proofs.Splits.{window-is}
 use Rattle.register.proofs.Register.bits_from.Needs as need

@@ -3,7 +3,7 @@ use mathlib.Core.List.{_∷_}
 use Prim.Native.Nat.{_^_, _<_}
 use native.Mathlib.Omega.{arith}
 use borrow.Author.Needs.{needs}
-use lib.IntN.{pos, _+ℤ_}
+use lib.IntN.{pos}
 use lib.ListN.{replicate}
 use Rattle.std.proofs.shelf.Signed.{ints}
 use Rattle.register.specs.Wrap.{half, valueOf, wrap}

@@ -1,6 +1,5 @@
 use mathlib.Core.Path.{_≡_, sym, ap, _∙_}
-use lib.IntN.{ℤ, pos, negℤ, _-ℤ_, +ℤ-idl}
-use Rattle.register.specs.Sum.{registerOf}
+use lib.IntN.{pos, negℤ, _-ℤ_, +ℤ-idl}
 use Rattle.register.specs.Value.{value}
 use Rattle.register.specs.Wrap.{wrap}
 use Rattle.register.proofs.Laws.{value-of, wrap-zero}

@@ -4,7 +4,6 @@ use native.Mathlib.Omega.{arith}
 use lib.IntN.{ℤ, natAbs, _+ℤ_}
 use Rattle.register.specs.Value.{value, meant}
 use Rattle.register.proofs.Laws.{value-of}
-use Rattle.accounts.specs.Meaning.{Meaning}
 use Rattle.accounts.specs.Reach.{reach}
 use Rattle.accounts.proofs.Stays.{stays}
 use Rattle.accounts.proofs.register_account.RegisterAccount.enter.Needs as need

@@ -1,5 +1,3 @@
-use mathlib.Core.List.{List}
-use Prim.Native.Nat.{ℕ}
 use native.Mathlib.Omega.{arith}
 use lib.Seq.{take-all}
 use Rattle.std.specs.Of.Vec.{vec-items}
