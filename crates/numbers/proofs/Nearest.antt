@@ -2,7 +2,7 @@
 use mathlib.Core.Path.{_≡_, refl, sym, ap, ap₂, _∙_, subst}
 use mathlib.Core.Logic.{_⊎_, _≢_, inl, inr}
 use Prim.Native.Nat.{ℕ, suc, _+_, _-_, _*_, _/_, _%_, _≤_, _<_, _∣_, min}
-use native.Mathlib.Nat.{le-trans, le-of-eq, lt-of-le-of-lt, mul-le-mul-right, min-eq-left, min-eq-right, div-lt-iff-lt-mul, le-div-iff-mul-le, dvd-mul-left-of-dvd, dvd-trans, div-mul-cancel, div-mul-le-self, mul-div-cancel, add-mul, eq-of-mul-eq-mul-right}
+use native.Mathlib.Nat.{le-trans, lt-of-le-of-lt, mul-le-mul-right, min-eq-left, min-eq-right, div-lt-iff-lt-mul, le-div-iff-mul-le, dvd-mul-left-of-dvd, dvd-trans, div-mul-cancel, div-mul-le-self, mul-div-cancel, add-mul, eq-of-mul-eq-mul-right}
 use native.Mathlib.Decide.{decLe}
 use native.Mathlib.Omega.{arith}
 use lib.Ieee.Nearest.{closest}
@@ -69,13 +69,6 @@ module _ (f : Format) where
   pub nearestℕ-of-held : {m : ℕ} → Held f m → nearestℕ f m ≡ m
   nearestℕ-of-held {m} h = omega (arith, nearestℕ-near m h)
 
-  pub nearestℕ-mono : {l m : ℕ} → l ≤ m → nearestℕ f l ≤ nearestℕ f m
-  nearestℕ-mono {l} {m} h =
-      elim (decLe m l) [
-        | yes g ↦ let e : l ≡ m = omega arith in le-of-eq (ap (nearestℕ f) e)
-        | no g ↦ omega (arith, nearestℕ-near l (nearestℕ-held m), nearestℕ-near m (nearestℕ-held l))
-      ]
-
   -- the nearest to a multiple of a scale's unit is a multiple of it
   pub nearestℕ-mult : {m p : ℕ} → p ≤ f .scales → unit f p ∣ m → unit f p ∣ nearestℕ f m
   nearestℕ-mult {m} {p} l d =
@@ -135,8 +128,6 @@ module _ (f : Format) where
     pub even : coefficient % 2 ≡ 0
     pub odd : other % 2 ≡ 1
     pub lower : scaleOf f (min w (nearestℕ f m)) ≡ scale
-    pub scale-is : Scaled f (min w (nearestℕ f m)) scale
-    pub step : (coefficient ≡ suc other) ⊎ (other ≡ suc coefficient)
 
   pub tie : (m : ℕ) {w : ℕ} → Held f w → w ≢ nearestℕ f m → dist w m ≡ dist (nearestℕ f m) m → Tie m w
   tie m {w} h n e =
@@ -164,8 +155,6 @@ module _ (f : Format) where
               even = r .0;
               odd = omega (arith, r .0);
               lower = scaled-one f (scaled f (min w (nearestℕ f m))) z;
-              scale-is = z;
-              step = elim (closest-is m u) [ inl b ↦ inr (omega arith) | inr b ↦ inl (omega arith) ];
             }
       ]
 

@@ -56,10 +56,6 @@ value-of z = ap (λ n. signedAt half n) (natOf-limbsOf 34 (residue (2 * half) z)
 pub holds : (r : Register) (z : ℤ) → value r ≡ wrap z → r ≡ registerOf z
 holds r z e = same-value _ _ (e ∙ sym (value-of z))
 
--- what differs by a multiple of the width is the same register
-pub registerOf-wrap : (z : ℤ) → registerOf (wrap z) ≡ registerOf z
-registerOf-wrap z = same-value _ _ (value-of (wrap z) ∙ ap wrap (sym (+ℤ-idr (wrap z))) ∙ wrap-left half half-pos z (pos 0) ∙ ap wrap (+ℤ-idr z) ∙ sym (value-of z))
-
 pub plus-assoc : (a b c : Register) → plus (plus a b) c ≡ plus a (plus b c)
 plus-assoc a b c =
     same-value _ _
