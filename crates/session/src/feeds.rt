@@ -22,6 +22,7 @@ use std::alloc::Refused;
 
 // The most bytes that the answer to a line has, and that the end of a session has.
 const ANSWER: usize = 26;
+
 const ENDING: usize = 54;
 
 // A last line that has no end is refused.

@@ -77,19 +77,40 @@ mod tests {
     #[test]
     fn a_line_of_a_megabyte(rt: LibcRuntime) -> Result<(), Fail> {
         let heap = rt.alloc();
-        let mut input = vec![in heap; b'(', b'k', b'i', b'n', b'd', b' ', b'c', b'o', b'u', b'n', b't', b')', b'\n']?;
+        let mut input = vec![in heap;
+            b'(',
+            b'k',
+            b'i',
+            b'n',
+            b'd',
+            b' ',
+            b'c',
+            b'o',
+            b'u',
+            b'n',
+            b't',
+            b')',
+            b'\n',
+        ]?;
         let long = vec![in heap; b'('; 1_000_000]?;
         input.extend_from_slice(long.as_slice())?;
         input.extend_from_slice(b"\n(read left)\n")?;
-        expect(heap, input.as_slice(), b"(ok)\n(refused 14)\n(number 00000000)\n(end 0 0)\n")
+        expect(
+            heap,
+            input.as_slice(),
+            b"(ok)\n(refused 14)\n(number 00000000)\n(end 0 0)\n",
+        )
     }
 
     #[test]
     fn every_cut_is_answered_alike(rt: LibcRuntime) -> Result<(), Fail> {
-        let input = b"(kind count)\n(post left 0000C350)\n(withdraw left 00000190)\n(read left)\n(read";
+        let input =
+            b"(kind count)\n(post left 0000C350)\n(withdraw left 00000190)\n(read left)\n(read";
         for cut in 0..input.len() {
             let out = answered(rt.alloc(), &input[0..cut], &input[cut..])?;
-            check(out.as_slice() == b"(ok)\n(ok)\n(ok)\n(number 0000C1C0)\n(refused 14)\n(end 2 0)\n")?;
+            check(
+                out.as_slice() == b"(ok)\n(ok)\n(ok)\n(number 0000C1C0)\n(refused 14)\n(end 2 0)\n",
+            )?;
         }
         Ok(())
     }

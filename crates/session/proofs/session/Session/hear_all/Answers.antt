@@ -14,9 +14,9 @@ pub loop-b-again : need.loop-b-again
 loop-b-again c =
     let e = c .byte .ensures in (
       λ b line s.
-      let h = c .loop-b .inv .0 b line s in
-      hears-more b line (vec-items (c .args .out .now)) (c .loop-b .self) (c .byte .last .self) (vec-items (c .loop-b .out)) (vec-items (c .byte .last .out)) (c .args .chunk .now)
-      (c .loop-b .b-index) (c .loop-b-test .taken) h (e .hears (h .book) (h .next) (h .stands)),
+          let h = c .loop-b .inv .0 b line s in
+          hears-more b line (vec-items (c .args .out .now)) (c .loop-b .self) (c .byte .last .self) (vec-items (c .loop-b .out)) (vec-items (c .byte .last .out)) (c .args .chunk .now)
+          (c .loop-b .b-index) (c .loop-b-test .taken) h (e .hears (h .book) (h .next) (h .stands)),
       omega (arith, e .lineLen, e .lineCap, c .loop-b .inv .1),
       omega (arith, e .outLen, e .outCap, c .loop-b .inv .2),
     )
