@@ -1,2 +1,4 @@
 pub mod Flat
 pub mod Counting
+pub mod Edges
+pub mod Ranges

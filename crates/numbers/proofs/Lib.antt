@@ -5,3 +5,6 @@ pub mod Signed
 pub mod Remainder
 pub mod Outcomes
 pub mod Laws
+pub mod Binary
+pub mod Words
+pub mod Adding

@@ -128,6 +128,8 @@ module _ (f : Format) where
     pub even : coefficient % 2 ≡ 0
     pub odd : other % 2 ≡ 1
     pub lower : scaleOf f (min w (nearestℕ f m)) ≡ scale
+    pub scale-is : Scaled f (min w (nearestℕ f m)) scale
+    pub step : (coefficient ≡ suc other) ⊎ (other ≡ suc coefficient)
 
   pub tie : (m : ℕ) {w : ℕ} → Held f w → w ≢ nearestℕ f m → dist w m ≡ dist (nearestℕ f m) m → Tie m w
   tie m {w} h n e =
@@ -155,6 +157,8 @@ module _ (f : Format) where
               even = r .0;
               odd = omega (arith, r .0);
               lower = scaled-one f (scaled f (min w (nearestℕ f m))) z;
+              scale-is = z;
+              step = elim (closest-is m u) [ inl b ↦ inr (omega arith) | inr b ↦ inl (omega arith) ];
             }
       ]
 

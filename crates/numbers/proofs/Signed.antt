@@ -5,13 +5,13 @@ use Prim.Native.Nat.{ℕ, zero, suc, _/_, _%_, _≤_, min}
 use native.Mathlib.Nat.{le-antisymm, min-comm, zero-mul}
 use native.Mathlib.Omega.{arith}
 use borrow.Author.Differences.{ints}
-use lib.IntN.{ℤ, pos, negsuc, negℤ, natAbs, ℤ-discrete}
+use lib.IntN.{ℤ, pos, negsuc, negℤ, natAbs, ℤ-discrete, negℤ-negℤ}
 use lib.Signed.{_≤ℤ_, ≤ℤ-refl}
 use Rattle.numbers.specs.Format.{Format, unit, Held, Holds, far, EvenTie, Nearest}
 use Rattle.numbers.specs.Nearest.{scaleOf, nearestℕ, nearest}
 use Rattle.numbers.proofs.Rounded.{dist}
 use Rattle.numbers.proofs.Scales.{lead-lt, least-is, computed-least, held-min}
-use Rattle.numbers.proofs.Nearest.{nearestℕ-held, nearestℕ-near, nearestℕ-tie, nearestℕ-tie-odd}
+use Rattle.numbers.proofs.Nearest.{nearestℕ-held, nearestℕ-near, nearestℕ-of-held, nearestℕ-tie, nearestℕ-tie-odd}
 
 pub abs-neg : (z : ℤ) → natAbs (negℤ z) ≡ natAbs z
 abs-neg (pos zero) = refl
@@ -49,6 +49,12 @@ module _ (f : Format) where
             let y : far (nearest f w) w ≤ far (nearest f v) w = nearest-near w (nearest f v) (nearest-held v) in
             omega (arith, ints)
       ]
+
+  pub nearest-neg : (v : ℤ) → nearest f (negℤ v) ≡ negℤ (nearest f v)
+  unfolding nearest
+  nearest-neg (pos zero) = let e : nearestℕ f 0 ≡ 0 = nearestℕ-of-held f held-zero in subst (λ (x : ℕ). pos x ≡ negℤ (pos x)) (sym e) refl
+  nearest-neg (pos (suc n)) = refl
+  nearest-neg (negsuc n) = sym (negℤ-negℤ (pos (nearestℕ f (suc n))))
 
   -- ---- ties
 

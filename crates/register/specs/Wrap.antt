@@ -29,6 +29,10 @@ wrap z = wrapAt half z
 abbrev pub valueOf : List ℕ → ℤ
 valueOf xs = signedAt half (natOf xs)
 
--- a magnitude times a power of two, with its sign
+-- a magnitude with a sign
+abbrev pub signedBy : Bool → ℕ → ℤ
+signedBy negative m = cond negative (negℤ (pos m)) (pos m)
+
+-- and times a power of two
 abbrev pub scaled : Bool → ℕ → ℕ → ℤ
-scaled negative magnitude shift = cond negative (negℤ (pos (magnitude * 2 ^ shift))) (pos (magnitude * 2 ^ shift))
+scaled negative magnitude shift = signedBy negative (magnitude * 2 ^ shift)
