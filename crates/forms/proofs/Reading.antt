@@ -12,7 +12,7 @@ use Rattle.std.specs.declared.option.Option.the-variants.{Some, None}
 use Rattle.std.specs.shelf.Text.{sameBytes}
 use Rattle.std.proofs.shelf.Equals.{sameBytes-decides}
 use Rattle.forms.specs.declared.words.KindName.{KindName}
-use Rattle.forms.specs.declared.words.KindName.the-variants.{Count}
+use Rattle.forms.specs.declared.words.KindName.the-variants.{Binary64, Binary32, Count}
 use Rattle.forms.specs.declared.words.Side.the-variants.{Left}
 use Rattle.forms.specs.declared.words.Visit.{Visit}
 use Rattle.forms.specs.declared.words.Visit.the-variants.{Post, Withdraw, Read}
@@ -103,15 +103,24 @@ visit-value k xs (Some v) m = sym (visit-read k v (m .1)) ∙ ap (readVisit k) (
 
 kind-read : (n : KindName) → readKind (kind-text n) ≡ Some n
 unfolding readKind
+kind-read Binary64 = refl
+kind-read Binary32 = refl
 kind-read Count = refl
 
 kind-is : (xs : List ℕ) (n : KindName) → readKind xs ≡ Some n → xs ≡ kind-text n
 unfolding readKind
-kind-is xs Count = go (sameBytes xs (kind-text Count)) refl
+kind-is xs n =
+    go (sameBytes xs (kind-text Binary64)) refl (sameBytes xs (kind-text Binary32)) refl (sameBytes xs (kind-text Count)) refl
   where
-    go : (t : Bool) → sameBytes xs (kind-text Count) ≡ t → cond t (Some Count) None ≡ Some Count → xs ≡ kind-text Count
-    go true e s = sameBytes-decides xs (kind-text Count) .0 e
-    go false e s = let z : _≡_ {A = ℕ} 0 1 = cc in absurd (omega arith)
+    names : (m : KindName) → sameBytes xs (kind-text m) ≡ true → m ≡ n → xs ≡ kind-text n
+    names m e i = sameBytes-decides xs (kind-text m) .0 e ∙ ap kind-text i
+
+    go : (t : Bool) → sameBytes xs (kind-text Binary64) ≡ t → (u : Bool) → sameBytes xs (kind-text Binary32) ≡ u → (v : Bool) → sameBytes xs (kind-text Count) ≡ v
+        → cond t (Some Binary64) (cond u (Some Binary32) (cond v (Some Count) None)) ≡ Some n → xs ≡ kind-text n
+    go true e u f v g s = names Binary64 e (cc)
+    go false e true f v g s = names Binary32 f (cc)
+    go false e false f true g s = names Count g (cc)
+    go false e false f false g s = let z : _≡_ {A = ℕ} 0 1 = cc in absurd (omega arith)
 
 pub kinds-exact : KindsExact
 kinds-exact = record { text = kind-is; read = kind-read }

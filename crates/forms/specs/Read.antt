@@ -9,7 +9,7 @@ use Rattle.std.specs.shelf.Text.{sameBytes}
 use Rattle.std.specs.declared.option.Option.{Option}
 use Rattle.std.specs.declared.option.Option.the-variants.{Some, None}
 use Rattle.forms.specs.declared.words.KindName.{KindName}
-use Rattle.forms.specs.declared.words.KindName.the-variants.{Count}
+use Rattle.forms.specs.declared.words.KindName.the-variants.{Binary64, Binary32, Count}
 use Rattle.forms.specs.declared.words.Side.the-variants.{Left}
 use Rattle.forms.specs.declared.words.Visit.{Visit}
 use Rattle.forms.specs.declared.words.Visit.the-variants.{Post, Withdraw, Read}
@@ -40,7 +40,9 @@ readVisit k xs = cond (sameBytes xs (visit-text k (candidate k xs))) (Some (cand
 
 -- the kind that the line is the text of
 unfoldable pub readKind : List ℕ → Option KindName
-readKind xs = cond (sameBytes xs (kind-text Count)) (Some Count) None
+readKind xs =
+    cond (sameBytes xs (kind-text Binary64)) (Some Binary64)
+    (cond (sameBytes xs (kind-text Binary32)) (Some Binary32) (cond (sameBytes xs (kind-text Count)) (Some Count) None))
 
 -- a line is read as a visit exactly where it is that visit's text
 pub record VisitsExact : Type 0 where

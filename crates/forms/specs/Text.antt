@@ -8,7 +8,7 @@ use lib.Dec.{ltb}
 use Rattle.std.specs.declared.option.Option.{Option}
 use Rattle.std.specs.declared.option.Option.the-variants.{Some, None}
 use Rattle.forms.specs.declared.words.KindName.{KindName}
-use Rattle.forms.specs.declared.words.KindName.the-variants.{Count}
+use Rattle.forms.specs.declared.words.KindName.the-variants.{Binary64, Binary32, Count}
 use Rattle.forms.specs.declared.words.Side.{Side}
 use Rattle.forms.specs.declared.words.Side.the-variants.{Left}
 use Rattle.forms.specs.declared.words.Visit.{Visit}
@@ -18,6 +18,8 @@ use Rattle.forms.specs.declared.words.Word.the-variants.{Post, Withdraw, Read}
 
 -- a kind's name and the bracket behind it
 abbrev pub kind-name : KindName → List ℕ
+kind-name Binary64 = codes "binary64)"
+kind-name Binary32 = codes "binary32)"
 kind-name Count = codes "count)"
 
 -- the line that names a kind

@@ -63,6 +63,8 @@ fn kind_name(text: &[u8]) -> Option<KindName>
     ensures { λ r. ⌜ BySome r (NoText kind-name (now (text .entry))) (λ n. now (text .entry) ≡ kind-name n) ⌝ }
 {
     match text {
+        [b'b', b'i', b'n', b'a', b'r', b'y', b'6', b'4', b')'] => Some(KindName::Binary64),
+        [b'b', b'i', b'n', b'a', b'r', b'y', b'3', b'2', b')'] => Some(KindName::Binary32),
         [b'c', b'o', b'u', b'n', b't', b')'] => Some(KindName::Count),
         _ => None,
     }

@@ -4,6 +4,8 @@ use refusals::Refusal;
 /// A kind that a session can be opened for.
 #[derive(Clone, Copy, PartialEq, Eq, Debug)]
 pub enum KindName {
+    Binary64,
+    Binary32,
     Count,
 }
 

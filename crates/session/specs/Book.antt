@@ -6,13 +6,14 @@ use lib.ListN.{length}
 use Rattle.std.specs.declared.option.Option.{Option}
 use Rattle.std.specs.declared.option.Option.the-variants.{Some, None}
 use Rattle.refusals.specs.declared.Refusal.the-variants.{NotAForm}
-use Rattle.kinds.specs.contracts.count.CountKind.the-impl as count
-use Rattle.kinds.specs.declared.count.Count as type
+use Rattle.numbers.specs.Binary.{binary64, binary32, binary}
+use Rattle.numbers.specs.Coding.{Coding, opposite, adder, outcome}
+use Rattle.kinds.specs.Count.{counts}
 use Rattle.kinds.specs.declared.kind.Kind.{Ghosts}
 use Rattle.forms.specs.Read.{readVisit, readKind}
 use Rattle.forms.specs.Replies.{answer-text, end-text}
 use Rattle.forms.specs.declared.words.KindName.{KindName}
-use Rattle.forms.specs.declared.words.KindName.the-variants.{Count}
+use Rattle.forms.specs.declared.words.KindName.the-variants.{Binary64, Binary32, Count}
 use Rattle.forms.specs.declared.words.Visit.{Visit}
 use Rattle.forms.specs.declared.words.Answer.{Answer}
 use Rattle.forms.specs.declared.words.Answer.the-variants.{Done, Number, Refused}
@@ -23,10 +24,27 @@ pub data Book : Type 0 where
   untold : Book
   told : KindName → Logbook → Book
 
--- the digits of a number
+-- how a kind is coded, and the digits of its patterns
+abbrev pub coding : KindName → Coding
+coding Binary64 = binary binary64
+coding Binary32 = binary binary32
+coding Count = counts
+
+abbrev pub digitsOf : KindName → ℕ
+digitsOf Binary64 = 16
+digitsOf Binary32 = 8
+digitsOf Count = 8
+
 abbrev pub digits : Book → ℕ
 digits untold = 8
-digits (told Count b) = 8
+digits (told n b) = digitsOf n
+
+-- what a kind tells by its coding
+abbrev pub kindOf : {K : Type 0} → Coding → Ghosts K
+kindOf k = record { number = k .number; worth = k .worth; opposite = opposite k; adder = adder k; outcome = outcome k }
+
+abbrev pub kindBy : KindName → Ghosts (Unit {0})
+kindBy n = kindOf (coding n)
 
 -- the left account is a register account
 abbrev pub opened : Logbook
@@ -50,17 +68,14 @@ module _ {K : Type 0} (k : Ghosts K) where
   visited None b = b
   visited (Some v) b = after k v b
 
-abbrev pub counting : Ghosts type.Count
-counting = count.ghosts
-
 -- what a line is answered, and what it leaves
 abbrev pub answerTo : Book → List ℕ → Answer
 answerTo untold line = kindAnswer (readKind line)
-answerTo (told Count b) line = visitAnswer counting (readVisit 8 line) b
+answerTo (told n b) line = visitAnswer (kindBy n) (readVisit (digitsOf n) line) b
 
 abbrev pub heard : Book → List ℕ → Book
 heard untold line = begun (readKind line)
-heard (told Count b) line = told Count (visited counting (readVisit 8 line) b)
+heard (told n b) line = told n (visited (kindBy n) (readVisit (digitsOf n) line) b)
 
 abbrev pub reply : Book → List ℕ → List ℕ
 reply b line = answer-text (digits b) (answerTo b line)

@@ -9,11 +9,14 @@ use crate::bench::Bench;
 use crate::books::Books;
 use accounts::account::Account;
 use accounts::register_calls::ExactAccount;
+use binary::format::Format32;
+use binary::format::Format64;
 use forms::reads::read_kind;
 use forms::reads::read_visit;
 use forms::words::Answer;
 use forms::words::KindName;
 use forms::words::Visit;
+use kinds::binary::BinaryKind;
 use kinds::count::CountKind;
 use kinds::kind::Kind;
 use refusals::Refusal;
@@ -61,15 +64,19 @@ impl<K: Kind, L: Account<K>> Bench<K, L> {
     }
 
     // Answers a whole line.
-    fn hear(&mut self, digits: usize, line: &[u8]) -> Answer
-        requires sound { ⌜ L·Account .sound (now self .left) ⌝ }
+    fn heard(self, digits: usize, line: &[u8]) -> (Bench<K, L>, Answer)
+        requires sound { ⌜ L·Account .sound (self .left) ⌝ }
         requires few { ⌜ digits ≤ 16 ⌝ }
-        ensures sound { λ _. ⌜ L·Account .sound (now (self .exit) .left) ⌝ }
-        ensures follows { λ r. ⌜ ((b : Logbook) → L·Account .meaning (now (self .entry) .left) ≡ meant b → (r ≡ visitAnswer K·Kind (readVisit digits (now (line .entry))) b) × (L·Account .meaning (now (self .exit) .left) ≡ meant (visited K·Kind (readVisit digits (now (line .entry))) b))) ⌝ }
+        ensures sound { λ r. ⌜ L·Account .sound (r .0 .left) ⌝ }
+        ensures follows { λ r. ⌜ ((b : Logbook) → L·Account .meaning (self .left) ≡ meant b → (r .1 ≡ visitAnswer K·Kind (readVisit digits (now (line .entry))) b) × (L·Account .meaning (r .0 .left) ≡ meant (visited K·Kind (readVisit digits (now (line .entry))) b))) ⌝ }
     {
+        let mut bench = self;
         match read_visit(digits, line) {
-            Some(v) => self.visit(v),
-            None => Answer::Refused(Refusal::NotAForm),
+            Some(v) => {
+                let answer = bench.visit(v);
+                (bench, answer)
+            }
+            None => (bench, Answer::Refused(Refusal::NotAForm)),
         }
     }
 
@@ -87,6 +94,8 @@ impl Books {
         ensures { λ r. ⌜ Agrees r (told name opened) ⌝ }
     {
         match name {
+            KindName::Binary64 => Books::InBinary64(Bench::open(())),
+            KindName::Binary32 => Books::InBinary32(Bench::open(())),
             KindName::Count => Books::InCount(Bench::open(())),
         }
     }
@@ -100,9 +109,16 @@ impl Books {
                 Some(name) => (Books::open(name), Answer::Done),
                 None => (Books::Unopened, Answer::Refused(Refusal::NotAForm)),
             },
+            Books::InBinary64(bench) => {
+                let (bench, answer) = bench.heard(16, line);
+                (Books::InBinary64(bench), answer)
+            }
+            Books::InBinary32(bench) => {
+                let (bench, answer) = bench.heard(8, line);
+                (Books::InBinary32(bench), answer)
+            }
             Books::InCount(bench) => {
-                let mut bench = bench;
-                let answer = bench.hear(8, line);
+                let (bench, answer) = bench.heard(8, line);
                 (Books::InCount(bench), answer)
             }
         }
@@ -114,8 +130,8 @@ impl Books {
         ensures value { λ r. ⌜ ((b : Book) → Agrees (now (self .entry)) b → r ≡ digits b) ⌝ }
     {
         match self {
-            Books::Unopened => 8,
-            Books::InCount(_) => 8,
+            Books::InBinary64(_) => 16,
+            Books::Unopened | Books::InBinary32(_) | Books::InCount(_) => 8,
         }
     }
 
@@ -125,6 +141,8 @@ impl Books {
     {
         match self {
             Books::Unopened => 0,
+            Books::InBinary64(bench) => bench.entries(),
+            Books::InBinary32(bench) => bench.entries(),
             Books::InCount(bench) => bench.entries(),
         }
     }
