@@ -55,7 +55,7 @@ pub impl Binary for Binary64 as Format64 {
     }
 
     fn sign_bit() -> u64 {
-        0x8000_0000_0000_0000
+        1 << 63
     }
 
     fn top() -> u64 {
@@ -84,7 +84,7 @@ pub impl Binary for Binary32 as Format32 {
     }
 
     fn sign_bit() -> u64 {
-        0x8000_0000
+        1 << 31
     }
 
     fn top() -> u64 {

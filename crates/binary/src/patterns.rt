@@ -11,12 +11,20 @@ ghost use Rattle.binary.specs.Layout.{signedCode, topCode};
 use crate::format::Binary;
 use register::Scaled;
 
+// Whether the fields of a pattern are those of a number.
+fn is_finite<B: Binary>(p: u64, sign: u64, lead: u64) -> bool
+    requires sign { ⌜ sign ≡ signBit (B·Binary .format) ⌝ }
+    requires lead { ⌜ lead ≡ B·Binary .format .lead ⌝ }
+    ensures { λ r. ⌜ r ≡ isNumber (B·Binary .format) p ⌝ }
+{
+    p / 2 < sign && p % sign / lead < B::scales() as u64 + 2
+}
+
 /// Whether a pattern is a number: its exponent field is not all ones, and no bit above the sign is set.
 pub fn is_number<B: Binary>(p: u64) -> bool
     ensures { λ r. ⌜ r ≡ isNumber (B·Binary .format) p ⌝ }
 {
-    let sign = B::sign_bit();
-    p / 2 < sign && p % sign / B::lead() < B::scales() as u64 + 2
+    is_finite::<B>(p, B::sign_bit(), B::lead())
 }
 
 // The theorem about patterns, by the lemmas.
