@@ -55,6 +55,21 @@ mod tests {
         )
     }
 
+    // The edge of the range, and one rounding where two would lose the last entry.
+    #[test]
+    fn binary_readings(rt: LibcRuntime) -> Result<(), Fail> {
+        expect(
+            rt.alloc(),
+            b"(kind binary64)\n(post left 7FF0000000000000)\n(post left 7FEFFFFFFFFFFFFF)\n(post left 7C8FFFFFFFFFFFFF)\n(read left)\n(withdraw left 7C8FFFFFFFFFFFFF)\n(post left 7C90000000000000)\n(read left)\n(post left 3F800000)\n",
+            b"(ok)\n(refused 1)\n(ok)\n(ok)\n(number 7FEFFFFFFFFFFFFF)\n(ok)\n(ok)\n(refused 3)\n(refused 14)\n(end 4 0)\n",
+        )?;
+        expect(
+            rt.alloc(),
+            b"(kind binary32)\n(post left 3F800000)\n(post left 33800000)\n(read left)\n(post left 21800000)\n(read left)\n(withdraw left 80000000)\n(post left 00000001)\n(read left)\n",
+            b"(ok)\n(ok)\n(ok)\n(number 3F800000)\n(ok)\n(number 3F800001)\n(ok)\n(ok)\n(number 3F800001)\n(end 5 0)\n",
+        )
+    }
+
     // Lower case, too few and too many digits, another side, blanks, NUL and a carriage return.
     #[test]
     fn lines_that_are_no_forms(rt: LibcRuntime) -> Result<(), Fail> {
