@@ -64,19 +64,18 @@ impl<K: Kind, L: Account<K>> Bench<K, L> {
     }
 
     // Answers a whole line.
-    fn heard(self, digits: usize, line: &[u8]) -> (Bench<K, L>, Answer)
+    fn heard(mut self, digits: usize, line: &[u8]) -> (Bench<K, L>, Answer)
         requires sound { ⌜ L·Account .sound (self .left) ⌝ }
         requires few { ⌜ digits ≤ 16 ⌝ }
         ensures sound { λ r. ⌜ L·Account .sound (r .0 .left) ⌝ }
         ensures follows { λ r. ⌜ ((b : Logbook) → L·Account .meaning (self .left) ≡ meant b → (r .1 ≡ visitAnswer K·Kind (readVisit digits (now (line .entry))) b) × (L·Account .meaning (r .0 .left) ≡ meant (visited K·Kind (readVisit digits (now (line .entry))) b))) ⌝ }
     {
-        let mut bench = self;
         match read_visit(digits, line) {
             Some(v) => {
-                let answer = bench.visit(v);
-                (bench, answer)
+                let answer = self.visit(v);
+                (self, answer)
             }
-            None => (bench, Answer::Refused(Refusal::NotAForm)),
+            None => (self, Answer::Refused(Refusal::NotAForm)),
         }
     }
 
