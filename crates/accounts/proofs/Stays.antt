@@ -19,7 +19,7 @@ in-reach : (n : ℕ) → n < 2 ^ 2098 → n < reach
 unfolding reach
 in-reach n l = l
 
-sum-size : (a b : ℤ) → natAbs (a +ℤ b) ≤ natAbs a + natAbs b
+pub sum-size : (a b : ℤ) → natAbs (a +ℤ b) ≤ natAbs a + natAbs b
 sum-size a b = omega (arith, ints)
 
 -- one entry more

@@ -1,3 +1,4 @@
 pub mod Meaning
 pub mod Reach
 pub mod Exact
+pub mod Fleet

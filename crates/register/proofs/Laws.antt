@@ -9,6 +9,7 @@ use native.Mathlib.Numerals.{add-one}
 use native.Mathlib.Omega.{arith}
 use lib.IntN.{ℤ, pos, _+ℤ_, +ℤ-assoc, +ℤ-comm, +ℤ-idr}
 use lib.ListN.{length, getD}
+use Rattle.std.specs.Iters.{folded}
 use Rattle.register.specs.Limbs.{natOf}
 use Rattle.register.specs.Sum.{limbsOf, registerOf, zeroRegister, plus}
 use Rattle.register.specs.Value.{value, bits}
@@ -75,3 +76,8 @@ plus-zero a =
 pub wrap-zero : wrap (pos 0) ≡ pos 0
 unfolding wrapAt residue signedAt half
 wrap-zero = refl
+
+-- a row of sums holds the sum of the values, wrapped
+pub folded-value : (a : Register) (z : ℤ) (rs : List Register) → value a ≡ wrap z → value (folded plus a rs) ≡ wrap (folded (λ sum r. sum +ℤ value r) z rs)
+folded-value a z [] e = e
+folded-value a z (r ∷ rs) e = folded-value (plus a r) (z +ℤ value r) rs (value-of _ ∙ ap (λ y. wrap (y +ℤ value r)) e ∙ wrap-left half half-pos z (value r))
