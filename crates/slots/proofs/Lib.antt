@@ -1,0 +1,4 @@
+pub mod Keeps
+pub mod Todo
+pub mod Standing
+pub mod Asking
