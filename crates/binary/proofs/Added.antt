@@ -1,9 +1,9 @@
 -- What is settled of two numbers is what the adder answers.
-use mathlib.Core.Path.{_≡_, sym, ap, subst, subst₂, _∙_}
+use mathlib.Core.Path.{_≡_, sym, ap, subst, _∙_}
 use mathlib.Core.Logic.{_≢_}
-use Prim.Native.Nat.{ℕ, _%_}
+use Prim.Native.Nat.{ℕ}
 use lib.Dec.{T}
-use lib.IntN.{ℤ, pos, _+ℤ_}
+use lib.IntN.{ℤ, _+ℤ_}
 use Rattle.numbers.specs.Format.{Format, Holds, Nearest, far}
 use Rattle.numbers.specs.Nearest.{nearest, remainder}
 use Rattle.numbers.specs.Binary.{isNumber, worth, pattern, binary}

@@ -1,8 +1,8 @@
 -- The steps of a reading, over the values that its code holds.
-use mathlib.Core.Path.{_≡_, refl, sym, ap, ap₂, _∙_, subst}
-use mathlib.Core.Logic.{_⊎_, inl, inr}
-use mathlib.Core.Bool.{Bool, true, false, not, cond}
-use Prim.Native.Nat.{ℕ, zero, suc, _+_, _-_, _*_, _/_, _%_, _^_, _≤_, _<_}
+use mathlib.Core.Path.{_≡_, refl, sym, ap, _∙_, subst}
+use mathlib.Core.Logic.{inl}
+use mathlib.Core.Bool.{Bool, true, false, cond}
+use Prim.Native.Nat.{ℕ, suc, _+_, _-_, _*_, _/_, _%_, _^_, _≤_, _<_}
 use native.Mathlib.Nat.{le-trans, le-of-eq, lt-of-lt-of-le, mod-eq-of-lt, mul-one, zero-add, div-lt-iff-lt-mul, div-one}
 use native.Mathlib.Decide.{decLe}
 use native.Mathlib.Omega.{arith}
@@ -10,30 +10,26 @@ use borrow.Author.Differences.{ints}
 use borrow.Author.Tests.{lt-ltb, le-ltb, ltb-true, ltb-false, leb-true, leb-false}
 use lib.Dec.{ltb, leb}
 use lib.Pow.{pow-add, pow-pos, pow-mono}
-use lib.IntN.{ℤ, pos, negsuc, negℤ, natAbs}
-use lib.Signed.{ltZ, leZ}
+use lib.IntN.{ℤ, pos, negsuc, natAbs}
+use lib.Signed.{ltZ}
 use lib.Ieee.Nearest.{closest}
-use Rattle.std.specs.declared.option.Option.{Option}
 use Rattle.std.specs.declared.option.Option.the-variants.{Some, None}
-use Rattle.std.specs.declared.result.Result.{Result}
 use Rattle.std.specs.declared.result.Result.the-variants.{Ok, Err}
-use Rattle.numbers.specs.Format.{Format, bound, top}
-use Rattle.numbers.specs.Nearest.{edge, nearestℕ, nearest}
+use Rattle.numbers.specs.Format.{Format, bound}
+use Rattle.numbers.specs.Nearest.{edge, nearestℕ}
 use Rattle.numbers.specs.Binary.{code, pattern, signBit, binary}
 use Rattle.numbers.specs.Outcome.{Outcome, told-by}
 use Rattle.numbers.specs.Coding.{outcome}
 use Rattle.numbers.proofs.Outcomes.{outcome-inside, outcome-over, outcome-under}
-use Rattle.numbers.proofs.Nearest.{nearestℕ-held}
 use Rattle.numbers.proofs.Binary.{lead-pos}
 use Rattle.register.specs.Limbs.{Rounded, LeastBits}
 use Rattle.register.specs.Wrap.{signedBy}
 use Rattle.binary.specs.Layout.{Layout, topCode, signedCode, nearestOf}
-use Rattle.binary.proofs.Nearby.{bound-two, bound-twice, exact, rounded, few, scale-fits, code-small}
+use Rattle.binary.proofs.Nearby.{bound-two, bound-twice, exact, rounded, few, scale-fits}
 use Rattle.binary.proofs.Joins.{sum-is}
 use Rattle.kinds.proofs.Edges.{closest-of, out-long, in-short, in-edge, out-edge}
 use Rattle.kinds.specs.Answer.{answered}
 use Rattle.kinds.specs.Range.{inRange}
-use Rattle.refusals.specs.declared.Refusal.{Refusal}
 use Rattle.refusals.specs.declared.Refusal.the-variants.{AboveRange, BelowRange}
 
 module _ (f : Format) (m : ℕ) where

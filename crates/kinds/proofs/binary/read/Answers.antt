@@ -1,5 +1,4 @@
-use mathlib.Core.Path.{_≡_, sym, ap, _∙_}
-use Prim.Native.Nat.{ℕ}
+use mathlib.Core.Path.{sym, ap, _∙_}
 use native.Mathlib.Nat.{lt-of-le-of-lt, le-of-eq}
 use lib.IntN.{natAbs}
 use Rattle.register.specs.Value.{value}

@@ -1,4 +1,4 @@
-use mathlib.Core.Path.{_≡_, sym, ap, _∙_}
+use mathlib.Core.Path.{sym, ap, _∙_}
 use Rattle.forms.specs.declared.words.KindName.the-variants.{Binary64, Binary32, Count}
 use Rattle.session.specs.Agree.{held}
 use Rattle.session.proofs.Told.{hears-in}
