@@ -25,12 +25,17 @@ module _ {K : Type 0} (k : Ghosts K) where
   numbers-drop (suc n) [] a = a
   numbers-drop (suc n) (x ∷ xs) a = numbers-drop n xs (a .1)
 
+  pub numbers-take : (n : ℕ) (xs : List ℕ) → Numbers k xs → Numbers k (take n xs)
+  numbers-take zero xs a = tt
+  numbers-take (suc n) [] a = a
+  numbers-take (suc n) (x ∷ xs) a = (a .0, numbers-take n xs (a .1))
+
   pub numbers-at : (xs : List ℕ) (i : ℕ) → i < length xs → Numbers k xs → T (k .number (getD xs i 0))
   numbers-at [] i h a = absurd (omega arith)
   numbers-at (x ∷ xs) zero h a = a .0
   numbers-at (x ∷ xs) (suc i) h a = numbers-at xs i (omega arith) (a .1)
 
-  exactSum-append : (xs ys : List ℕ) → exactSum k (xs ++ ys) ≡ exactSum k xs +ℤ exactSum k ys
+  pub exactSum-append : (xs ys : List ℕ) → exactSum k (xs ++ ys) ≡ exactSum k xs +ℤ exactSum k ys
   exactSum-append [] ys = omega (arith, ints)
   exactSum-append (x ∷ xs) ys = let e = exactSum-append xs ys in omega (arith, ints)
 

@@ -15,8 +15,14 @@ fn all_numbers<K: Kind>(slots: &[u64]) -> Result<(), Refusal>
     Ok(())
 }
 
-// Asks everything before anything moves.
-pub(crate) fn asked<K: Kind>(slots: &[u64], column: usize, plan: &[u8]) -> Result<(), Refusal>
+/// Asks everything before anything moves: of the slots, of a column of so many words and of the plan.
+pub fn asked<K: Kind>(slots: &[u64], column: usize, plan: &[u8]) -> Result<(), Refusal>
+    ensures { λ r. ⌜ AskedAnswer K·Kind (now (slots .entry)) column (now (plan .entry)) r ⌝ }
+{
+    questions::<K>(slots, column, plan)
+}
+
+fn questions<K: Kind>(slots: &[u64], column: usize, plan: &[u8]) -> Result<(), Refusal>
     ensures { λ r. ⌜ AskedAnswer K·Kind (now (slots .entry)) column (now (plan .entry)) r ⌝ }
 {
     let count = slots.len();

@@ -1,4 +1,4 @@
 //! Slots: numbers that wait to be added, and the pass that adds them by a plan and loses nothing.
-mod asked;
-mod moves;
+pub mod asked;
+pub mod moves;
 pub mod pass;

@@ -7,8 +7,8 @@ ghost use Rattle.plans.specs.Plan.{IsPlan};
 ghost use Rattle.slots.specs.Pass.{sumOf, restOf, Passed, Numbers, Cleared};
 use kinds::kind::Kind;
 
-// The first words become 0.
-fn clear(words: &mut [u64], count: usize)
+/// The first words become 0.
+pub fn clear(words: &mut [u64], count: usize)
     requires { ⌜ count ≤ length (now words) ⌝ }
     ensures { λ _. ⌜ Cleared count (now (words .entry)) (now (words .exit)) ⌝ }
 {
@@ -40,8 +40,8 @@ fn add_lead<K: Kind>(slots: &mut [u64], value: u64)
     slots[1] = rest;
 }
 
-// One pass. The values of the parts that wait for their closing bracket stand in the column.
-pub(crate) fn pass_by<K: Kind>(slots: &mut [u64], column: &mut [u64], plan: &[u8])
+/// A pass that is granted. The values of the parts that wait for their closing bracket stand in the column.
+pub fn pass_by<K: Kind>(slots: &mut [u64], column: &mut [u64], plan: &[u8])
     requires count { ⌜ 2 ≤ length (now slots) ⌝ ∗ ⌜ length (now slots) ≤ 4096 ⌝ }
     requires numbers { ⌜ Numbers K·Kind (now slots) ⌝ }
     requires room { ⌜ length (now slots) ≤ length (now column) ⌝ }

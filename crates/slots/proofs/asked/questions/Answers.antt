@@ -5,7 +5,7 @@ use Rattle.std.specs.declared.result.Result.the-variants.{Err}
 use Rattle.std.proofs.shelf.Results.{err-from-errBy}
 use Rattle.slots.specs.Asked.{AskedAnswer, wrong-count, no-number, short-column}
 use Rattle.slots.proofs.Asking.{plan-last}
-use Rattle.slots.proofs.asked.asked.Needs as need
+use Rattle.slots.proofs.asked.questions.Needs as need
 
 pub returns-then-count-lt2 : need.returns-then-count-lt2
 returns-then-count-lt2 g c = wrong-count (λ h. elim (c .then-count-lt2 .either) [ inl a ↦ omega (arith, h) | inr b ↦ omega (arith, h) ])

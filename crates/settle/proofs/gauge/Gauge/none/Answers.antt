@@ -1,0 +1,6 @@
+use borrow.Author.Needs.{needs}
+use Rattle.settle.proofs.Laws.{same}
+use Rattle.settle.proofs.gauge.Gauge.none.Needs as need
+
+pub returns : need.returns
+returns c = same _ _ (search needs) (search needs)

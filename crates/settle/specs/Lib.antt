@@ -1,0 +1,5 @@
+pub mod Both
+pub mod Seen
+pub mod Test
+pub mod Budget
+pub mod Settle
