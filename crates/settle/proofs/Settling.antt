@@ -1,7 +1,7 @@
 -- The slots in the midst of a settle.
-use mathlib.Core.Path.{_≡_, refl, sym, ap, _∙_, subst}
+use mathlib.Core.Path.{_≡_, sym, ap, _∙_, subst}
 use mathlib.Core.List.{List, _++_}
-use Prim.Native.Nat.{ℕ, _+_, _-_, _≤_, _<_}
+use Prim.Native.Nat.{ℕ, _+_, _≤_, _<_}
 use native.Mathlib.Numerals.{add-one}
 use native.Mathlib.Omega.{arith}
 use borrow.Author.Count.{below-more}
@@ -14,7 +14,7 @@ use Rattle.numbers.specs.Lawful.{Lawful, NoneNearer}
 use Rattle.numbers.specs.Outcome.{number}
 use Rattle.kinds.specs.declared.kind.Kind.{Ghosts}
 use Rattle.kinds.specs.Answer.{answered}
-use Rattle.plans.specs.Plan.{Plan, text, dots, IsPlan}
+use Rattle.plans.specs.Plan.{Plan, text, dots}
 use Rattle.plans.proofs.Texts.{one-plan}
 use Rattle.slots.specs.Pass.{passed, Passed, Numbers, exactSum, Cleared}
 use Rattle.slots.proofs.Keeps.{keeps}
@@ -47,22 +47,6 @@ module _ {K : Type 0} (k : Ghosts K) (l : Lawful (k .number) (k .worth) (k .oppo
   module _ (plan : List ℕ) (budget : ℕ) (before : List ℕ) where
     abbrev S : ℕ → List ℕ → Type 0
     S = Settling k plan budget before
-
-    pub begun : 2 ≤ length before → Numbers k before → IsPlan (length before - 1) plan → S 0 before
-    begun h n p = record {
-      by = p .plan;
-      written = p .written;
-      counted = omega (arith, p .counted);
-      numbers = n;
-      most = omega arith;
-      left = refl;
-      same = refl;
-      total = refl;
-      earlier = λ i lt. absurd (omega arith);
-    }
-
-    pub plan-still : (n : ℕ) (slots : List ℕ) → S n slots → IsPlan (length slots - 1) plan
-    plan-still n slots s = record { plan = s .by; written = s .written; counted = omega (arith, s .counted, s .same) }
 
     pub again : (n : ℕ) (slots after : List ℕ) → S n slots → n < budget → Rejects k slots → Passed k plan slots after → S (n + 1) after
     again n slots after s h r p =
