@@ -16,11 +16,10 @@ use Rattle.register.specs.Value.{value}
 use Rattle.register.specs.Wrap.{half}
 use Rattle.register.specs.declared.Register.{Register}
 use Rattle.register.proofs.Laws.{value-of, folded-value}
-use Rattle.register.proofs.Whole.{half-pos}
+use Rattle.register.proofs.Whole.{half-pos, sum-size}
 use Rattle.register.proofs.Wrapping.{wrap-fits}
 use Rattle.accounts.specs.Reach.{fleetReach}
 use Rattle.accounts.specs.Fleet.{fleetSum, AllInReach, FirstBeyond}
-use Rattle.accounts.proofs.Stays.{sum-size}
 
 pub few-bits : (n p : ℕ) → LeastBits n p → p ≤ 2131 → n < fleetReach
 unfolding fleetReach

@@ -5,9 +5,8 @@ use native.Mathlib.Nat.{mul-le-mul-right}
 use native.Mathlib.Omega.{arith}
 use lib.Dec.{lit<}
 use lib.IntN.{ℤ, natAbs, _+ℤ_}
-use Rattle.std.proofs.shelf.Signed.{ints}
 use Rattle.register.specs.Wrap.{half, wrap}
-use Rattle.register.proofs.Whole.{half-pos}
+use Rattle.register.proofs.Whole.{half-pos, sum-size}
 use Rattle.register.proofs.Wrapping.{wrap-fits}
 use Rattle.accounts.specs.Reach.{reach}
 
@@ -18,9 +17,6 @@ all-within = lit< tt
 in-reach : (n : ℕ) → n < 2 ^ 2098 → n < reach
 unfolding reach
 in-reach n l = l
-
-pub sum-size : (a b : ℤ) → natAbs (a +ℤ b) ≤ natAbs a + natAbs b
-sum-size a b = omega (arith, ints)
 
 -- one entry more
 pub record Stays (old z : ℤ) (n : ℕ) : Type 0 where

@@ -1,9 +1,9 @@
 -- A register as a whole.
 use mathlib.Core.Path.{_≡_, refl, ap, _∙_, subst}
-use Prim.Native.Nat.{ℕ, _+_, _*_, _^_, _<_}
+use Prim.Native.Nat.{ℕ, _+_, _*_, _^_, _<_, _≤_}
 use native.Mathlib.Nat.{lt-of-lt-of-le}
 use native.Mathlib.Omega.{arith}
-use lib.IntN.{ℤ, pos, negℤ, _+ℤ_, _-ℤ_}
+use lib.IntN.{ℤ, pos, negℤ, natAbs, _+ℤ_, _-ℤ_}
 use lib.ListN.{getD, set, length-set}
 use lib.Pow.{pow-pos, pow-mono}
 use Rattle.register.specs.Limbs.{natOf}
@@ -21,6 +21,10 @@ half-pos = pow-pos 2175
 pub whole-is : 2 ^ (64 * 34) ≡ 2 * half
 unfolding half
 whole-is = refl
+
+-- a sum is no larger than its parts together
+pub sum-size : (a b : ℤ) → natAbs (a +ℤ b) ≤ natAbs a + natAbs b
+sum-size a b = omega (arith, ints)
 
 abbrev pub limb : Register → ℕ → ℕ
 limb r i = getD (r .limbs) i 0

@@ -13,7 +13,7 @@ use Rattle.std.proofs.shelf.Signed.{ints}
 use Rattle.std.proofs.shelf.Tests.{cases-lt}
 use Rattle.numbers.specs.Lawful.{Lawful}
 use Rattle.register.specs.Wrap.{half, wrap}
-use Rattle.register.proofs.Whole.{half-pos}
+use Rattle.register.proofs.Whole.{half-pos, sum-size}
 use Rattle.register.proofs.Wrapping.{wrap-fits}
 use Rattle.kinds.specs.declared.kind.Kind.{Ghosts}
 use Rattle.slots.specs.Pass.{Numbers, exactSum, inUse}
@@ -45,16 +45,13 @@ module _ {K : Type 0} (k : Ghosts K) where
         | inr a ↦ omega arith
       ]
 
-  size-of-sum : (a b : ℤ) → natAbs (a +ℤ b) ≤ natAbs a + natAbs b
-  size-of-sum a b = omega (arith, ints)
-
   -- the sum of numbers below 2 ^ p, so many of them in use
   sum-bound : (p : ℕ) (xs : List ℕ) → Under k p xs → natAbs (exactSum k xs) ≤ inUse k xs * 2 ^ p
   sum-bound p [] h = omega arith
   sum-bound p (x ∷ xs) h =
       let a = sized (natAbs (k .worth x)) (2 ^ p) (h .0) in
       let b = sum-bound p xs (h .1) in
-      let t = size-of-sum (k .worth x) (exactSum k xs) in
+      let t = sum-size (k .worth x) (exactSum k xs) in
       omega (arith, add-mul (min 1 (natAbs (k .worth x))) (inUse k xs) (2 ^ p))
 
   none-sum : (xs : List ℕ) → inUse k xs ≡ 0 → natAbs (exactSum k xs) ≡ 0
@@ -62,7 +59,7 @@ module _ {K : Type 0} (k : Ghosts K) where
   none-sum (x ∷ xs) h =
       let a : natAbs (k .worth x) ≡ 0 = omega arith in
       let b = none-sum xs (omega arith) in
-      omega (arith, size-of-sum (k .worth x) (exactSum k xs))
+      omega (arith, sum-size (k .worth x) (exactSum k xs))
 
   pub reach-bound : (xs : List ℕ) (b : ℕ) → Reach k xs b → natAbs (exactSum k xs) ≤ b
   reach-bound xs _ (none z) = omega (arith, none-sum xs z)
@@ -100,7 +97,7 @@ module _ {K : Type 0} (k : Ghosts K) where
     pub exact-up : (xs : List ℕ) (m : ℕ) → Numbers k xs → length xs ≤ 4096 → m ≤ 2110 → wrap (exactSum k xs +ℤ pos (2 ^ m)) ≡ exactSum k xs +ℤ pos (2 ^ m)
     exact-up xs m n h small =
         wrap-fits half half-pos (exactSum k xs +ℤ pos (2 ^ m))
-        (omega (arith, size-of-sum (exactSum k xs) (pos (2 ^ m)), sum-small xs n h, power-within m small, twice-within))
+        (omega (arith, sum-size (exactSum k xs) (pos (2 ^ m)), sum-small xs n h, power-within m small, twice-within))
 
     down-size : (a : ℤ) (b : ℕ) → natAbs (a -ℤ pos b) ≤ natAbs a + b
     down-size a b = omega (arith, ints)
