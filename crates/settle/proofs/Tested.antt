@@ -1,10 +1,10 @@
 -- An accepted test names the outcome of the exact sum, from the laws of a kind alone.
 use mathlib.Core.Path.{_≡_, refl, sym, ap, _∙_, subst}
-use mathlib.Core.List.{List, [], _∷_}
-use Prim.Native.Nat.{ℕ, zero, suc, _≤_}
+use mathlib.Core.List.{List}
+use Prim.Native.Nat.{ℕ, _≤_}
 use native.Mathlib.Omega.{arith}
 use lib.IntN.{ℤ, pos, natAbs, _+ℤ_, _-ℤ_}
-use lib.ListN.{take, drop}
+use lib.ListN.{take, drop, take-append-drop}
 use lib.Signed.{_≤ℤ_}
 use Rattle.std.proofs.shelf.Signed.{ints}
 use Rattle.std.specs.declared.result.Result.{Result}
@@ -14,6 +14,7 @@ use Rattle.numbers.specs.Outcome.{Outcome, below, above, number, AtMost}
 use Rattle.kinds.specs.declared.kind.Kind.{Ghosts}
 use Rattle.kinds.specs.Answer.{answered}
 use Rattle.slots.specs.Pass.{exactSum}
+use Rattle.slots.proofs.Keeps.{exactSum-append}
 use Rattle.settle.specs.Test.{Names, Rejects, TestTells, sumAnswer}
 use Rattle.settle.proofs.Wide.{reach-bound, reach-one}
 
@@ -46,12 +47,6 @@ module _ {K : Type 0} (k : Ghosts K) (l : Lawful (k .number) (k .worth) (k .oppo
       go (number p) above i j m n = absurd n
       go (number p) (number q) i j m n = ap number (l .onePattern v lo q p j i (omega (arith, ints)))
 
-  -- the sum of the first slots and that of the others
-  together : (n : ℕ) (xs : List ℕ) → exactSum k xs ≡ exactSum k (take n xs) +ℤ exactSum k (drop n xs)
-  together zero xs = omega (arith, ints)
-  together (suc n) [] = omega (arith, ints)
-  together (suc n) (x ∷ xs) = let e = together n xs in omega (arith, ints)
-
   between-low : (s t : ℤ) (b : ℕ) → natAbs t ≤ b → (s -ℤ pos b) ≤ℤ (s +ℤ t)
   between-low s t b h = omega (arith, ints)
 
@@ -64,7 +59,7 @@ module _ {K : Type 0} (k : Ghosts K) (l : Lawful (k .number) (k .worth) (k .oppo
       let first = exactSum k (take 2 xs) in
       let rest = exactSum k (drop 2 xs) in
       let small = reach-bound k (drop 2 xs) b (n .reach) in
-      let all : exactSum k xs ≡ first +ℤ rest = together 2 xs in
+      let all : exactSum k xs ≡ first +ℤ rest = ap (exactSum k) (sym (take-append-drop 2 xs)) ∙ exactSum-append k (take 2 xs) (drop 2 xs) in
       let alike = one-outcome (k .outcome (first -ℤ pos b)) (k .outcome (first +ℤ pos b)) (sym (n .lower) ∙ n .higher) in
       n .lower ∙ ap answered (sym (squeezed (first -ℤ pos b) (first +ℤ rest) (first +ℤ pos b) (between-low first rest b small) (between-high first rest b small) alike))
       ∙ ap (λ z. answered (k .outcome z)) (sym all)

@@ -1,6 +1,5 @@
 //! What can be set for a settle.
 ghost use mathlib.Core.Path.{_≡_};
-ghost use Prim.Native.Nat.{_≤_};
 ghost use Rattle.settle.specs.Budget.{BudgetAnswer};
 use crate::budget::Settings;
 use refusals::Refusal;

@@ -1,7 +1,6 @@
 //! The settle.
 ghost use Prim.Native.Nat.{_-_, _≤_};
 ghost use lib.ListN.{length};
-ghost use mathlib.Core.Path.{_≡_};
 ghost use Rattle.plans.specs.Plan.{IsPlan};
 ghost use Rattle.slots.specs.Pass.{Numbers, Cleared};
 ghost use Rattle.settle.specs.Test.{TestTells};

@@ -4,7 +4,7 @@ ghost use mathlib.Core.Path.{_≡_};
 ghost use Prim.Native.Nat.{_≤_};
 ghost use lib.ListN.{length};
 ghost use Rattle.slots.specs.Pass.{Numbers};
-ghost use Rattle.settle.specs.Test.{Ceiling, Spread, TestAnswer, TestTells};
+ghost use Rattle.settle.specs.Test.{Ceiling, Spread, TestAnswer};
 use crate::adding::sum_of;
 use crate::gauging::gauge_of;
 use kinds::kind::Kind;
