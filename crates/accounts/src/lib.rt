@@ -1,4 +1,6 @@
 //! Accounts of one kind of number: what every account means, and the account that adds in a register.
+#![tactic(auto)]
+
 pub mod account;
 pub mod asked;
 pub mod fleet;

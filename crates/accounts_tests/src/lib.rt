@@ -1,4 +1,5 @@
 //! Fleet totals by example: what registers add up to, and which are refused.
+#![tactic(auto)]
 
 #[cfg(test)]
 mod tests {

@@ -1,4 +1,6 @@
 //! The worked examples of docs/RULES.md, proved together.
+#![tactic(auto)]
+
 ghost use Rattle.cases.specs.Examples.{OfNumbers, OfSums, OfSettling};
 
 mod proved;

@@ -1,4 +1,6 @@
 //! What can be joined in any order and any bracketing.
+#![tactic(auto)]
+
 ghost use Rattle.std.specs.Prelude.{◌≡◌, fold};
 ghost use Rattle.join.specs.Orders.{EveryWay};
 

@@ -1,4 +1,6 @@
 //! Kinds of number: what every kind tells and obeys, the kind count and the two binary kinds.
+#![tactic(auto)]
+
 pub mod binary;
 pub mod count;
 pub mod kind;

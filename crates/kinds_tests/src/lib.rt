@@ -1,4 +1,5 @@
 //! Kinds by example: sums of two numbers, and what is a number.
+#![tactic(auto)]
 
 #[cfg(test)]
 mod tests {

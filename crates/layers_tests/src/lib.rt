@@ -1,4 +1,5 @@
 //! Layers by example: what waits is neither lost nor counted twice, a quota cuts where it should, and piles read alike.
+#![tactic(auto)]
 
 #[cfg(test)]
 mod tests {

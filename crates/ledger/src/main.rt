@@ -1,4 +1,6 @@
 //! The program: reads forms from standard input and answers each line as soon as it has ended.
+#![tactic(auto)]
+
 use session::Session;
 use std::io;
 use std::io::{Read, Write};

@@ -1,5 +1,7 @@
 //! The theory of number formats: the nearest number, outcomes, what an adder leaves over, and the laws of every kind.
 //! It has no arithmetic of its own; each public function exists to carry a theorem on its contract.
+#![tactic(auto)]
+
 ghost use Rattle.numbers.specs.Format.{Format};
 ghost use Rattle.numbers.specs.Coding.{Coding};
 ghost use Rattle.numbers.specs.Theorems.{OneNearest, OrderedOutcomes, HeldRemainder, LawfulCoding};

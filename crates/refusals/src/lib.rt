@@ -1,4 +1,6 @@
 //! Why a call says no: one case for each reason, told by its number and its place.
+#![tactic(auto)]
+
 ghost use Rattle.std.specs.Prelude.{◌≡◌};
 ghost use Rattle.refusals.specs.Told.{told};
 

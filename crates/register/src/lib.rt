@@ -1,4 +1,6 @@
 //! An exact accumulator: a register of 2,176 bits in two's complement, wide enough for every sum that an account can reach.
+#![tactic(auto)]
+
 ghost use Rattle.std.specs.Prelude.{◌≡◌, ℕ, ◌^◌, ◌<◌, length, slice_index};
 
 mod calls;

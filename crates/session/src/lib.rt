@@ -1,4 +1,6 @@
 //! A session: it is fed bytes and answers each line that they end, however they are cut.
+#![tactic(auto)]
+
 mod answers;
 mod bench;
 mod books;

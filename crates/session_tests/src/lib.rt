@@ -1,4 +1,5 @@
 //! Sessions by example: whole inputs, and what they are answered.
+#![tactic(auto)]
 
 #[cfg(test)]
 mod tests {

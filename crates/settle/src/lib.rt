@@ -1,4 +1,6 @@
 //! Settling: the outcome of all slots, by the test and passes or, where they don't decide it, by the register.
+#![tactic(auto)]
+
 mod adding;
 pub mod budget;
 pub mod gauge;

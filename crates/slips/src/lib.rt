@@ -1,4 +1,6 @@
 //! The account that keeps its entries in 64 slots of its own.
+#![tactic(auto)]
+
 mod lodging;
 mod settling;
 pub mod slips;

@@ -1,4 +1,5 @@
 //! Slips by example: what they read as they fill, and what they refuse.
+#![tactic(auto)]
 
 #[cfg(test)]
 mod tests {

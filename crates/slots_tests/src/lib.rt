@@ -1,4 +1,5 @@
 //! Plans, passes and settles by example.
+#![tactic(auto)]
 
 #[cfg(test)]
 mod tests {

@@ -1,4 +1,6 @@
 //! Compares the ledger's arithmetic with arithmetic that is not ours, and prints for each family of cases how many were compared and how many differ.
+#![tactic(auto)]
+
 mod examples;
 mod generator;
 mod machine;
