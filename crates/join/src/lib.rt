@@ -25,8 +25,8 @@ pub trait Join: Sized {
 
 // The items joined one after the other.
 fn left_to_right<J: Join>(items: &[J]) -> J
-    ensures value { result ≡ fold joined neutral items.now }
-    ensures every { EveryWay joined neutral items.now result }
+    ensures value { result ≡ fold J.joined J.neutral items.now }
+    ensures every { EveryWay J.joined J.neutral items.now result }
 {
     let mut all = J::neutral();
     for item in items {
@@ -37,8 +37,8 @@ fn left_to_right<J: Join>(items: &[J]) -> J
 
 /// All items joined, from the left to the right; every bracketing of every order of them comes to the same.
 pub fn fold<J: Join>(items: &[J]) -> J
-    ensures value { result ≡ fold joined neutral items.now }
-    ensures every { EveryWay joined neutral items.now result }
+    ensures value { result ≡ fold J.joined J.neutral items.now }
+    ensures every { EveryWay J.joined J.neutral items.now result }
 {
     left_to_right(items)
 }

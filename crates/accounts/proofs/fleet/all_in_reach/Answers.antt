@@ -5,16 +5,16 @@ use Rattle.accounts.specs.Fleet.{InReach, BeyondReach}
 use Rattle.accounts.proofs.FleetSum.{few_bits, many_bits}
 use Rattle.accounts.proofs.fleet.all_in_reach.Goals as goal
 
-pub returns-then-bit-length-gt2131 : goal.returns-then-bit-length-gt2131
-returns-then-bit-length-gt2131 c =
-    let long = rw c.magnitude.ensures at (many_bits _ _ c.bit-length.ensures c.if-bit-length-gt2131.true) in
+pub returns-then-bit_length-gt2131 : goal.returns-then-bit_length-gt2131
+returns-then-bit_length-gt2131 c =
+    let long = rw c.magnitude.ensures at (many_bits _ _ c.bit_length.ensures c.if-bit_length-gt2131.true) in
     let i = c.loop-i.i in
     let item = c.index-registers-i.result in
     (i, (c.loop-i-test.true, c.loop-i.invariant, λ d. subst BeyondReach (c.index-registers-i.is ∙ get_or_default _ i item d c.loop-i-test.true) long), refl)
 
 pub loop-i-preserved : goal.loop-i-preserved
 loop-i-preserved c k d _ lt =
-    let short = rw c.magnitude.ensures at (few_bits _ _ c.bit-length.ensures c.if-bit-length-gt2131.false) in
+    let short = rw c.magnitude.ensures at (few_bits _ _ c.bit_length.ensures c.if-bit_length-gt2131.false) in
     let i = c.loop-i.i in
     let item = c.index-registers-i.result in
     elim (dec_le (suc k) i) [

@@ -6,10 +6,10 @@ use Rattle.kinds.specs.Answer.{answered}
 use Rattle.accounts.proofs.FleetSum.{one_first, none_first, added}
 use Rattle.accounts.proofs.fleet.fleet_total.Goals as goal
 
-pub returns-in-err-all-in-reach : goal.returns-in-err-all-in-reach
-returns-in-err-all-in-reach g c =
-    let p = err_from_is_err_and c.from-residual.result c.from-residual.ensures.1 in
-    let first = c.in-err-all-in-reach.ensures in
+pub returns-in_err-all_in_reach : goal.returns-in_err-all_in_reach
+returns-in_err-all_in_reach g c =
+    let p = err_from_is_err_and c.from_residual.result c.from_residual.ensures.1 in
+    let first = c.in_err-all_in_reach.ensures in
     let rs = c.args.registers.now in
     record {
       too_many = λ h. absurd (omega (arith, c.if-registers-gt1024.false));
@@ -19,7 +19,7 @@ returns-in-err-all-in-reach g c =
 
 pub returns : goal.returns
 returns g c =
-    let all = c.in-ok-all-in-reach.ensures in
+    let all = c.in_ok-all_in_reach.ensures in
     let rs = c.args.registers.now in
     record {
       too_many = λ h. absurd (omega (arith, c.if-registers-gt1024.false));

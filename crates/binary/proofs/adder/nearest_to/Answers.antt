@@ -18,18 +18,18 @@ returns-then-m-eq0 g c =
       units = n.1 ∙ ap (λ (x : ℕ). nearest_ℕ f (x * 2 ^ c.args.shift)) (sym e);
     }
 
-pub overflow-mul-result : goal.overflow-mul-result
-overflow-mul-result g c =
+pub overflow_mul-result : goal.overflow_mul-result
+overflow_mul-result g c =
     let x = known g.met.B.Binary.layout c.lead-lead.ensures c.fraction-digits.ensures refl c.requires.1 c.if-m-eq0.false c.requires.0 in
     omega (arith, (step.low_fits x c.min-up.result c.if-size-digits.true c.min-up.ensures).0)
 
-pub overflow-cast-result-then-size-digits : goal.overflow-cast-result-then-size-digits
-overflow-cast-result-then-size-digits g c =
+pub overflow_cast-result-then-size-digits : goal.overflow_cast-result-then-size-digits
+overflow_cast-result-then-size-digits g c =
     let x = known g.met.B.Binary.layout c.lead-lead.ensures c.fraction-digits.ensures refl c.requires.1 c.if-m-eq0.false c.requires.0 in
     omega (arith, step.low_cast x c.if-size-digits.true)
 
-pub overflow-add-result : goal.overflow-add-result
-overflow-add-result g c =
+pub overflow_add-result : goal.overflow_add-result
+overflow_add-result g c =
     let x = known g.met.B.Binary.layout c.lead-lead.ensures c.fraction-digits.ensures refl c.requires.1 c.if-m-eq0.false c.requires.0 in
     omega (arith, (step.low_fits x c.min-up.result c.if-size-digits.true c.min-up.ensures).1)
 
@@ -44,13 +44,13 @@ halved-n-requires g c =
     let x = known g.met.B.Binary.layout c.lead-lead.ensures c.fraction-digits.ensures c.scales.ensures c.requires.1 c.if-m-eq0.false c.requires.0 in
     step.high_asks x c.if-size-digits.false
 
-pub overflow-mul-code : goal.overflow-mul-code
-overflow-mul-code g c =
+pub overflow_mul-code : goal.overflow_mul-code
+overflow_mul-code g c =
     let x = known g.met.B.Binary.layout c.lead-lead.ensures c.fraction-digits.ensures c.scales.ensures c.requires.1 c.if-m-eq0.false c.requires.0 in
     omega (arith, (step.high_fits x c.halved-n.result c.if-size-digits.false c.if-drop-room.true c.halved-n.ensures).0)
 
-pub overflow-add-code-then-drop-room : goal.overflow-add-code-then-drop-room
-overflow-add-code-then-drop-room g c =
+pub overflow_add-code-then-drop-room : goal.overflow_add-code-then-drop-room
+overflow_add-code-then-drop-room g c =
     let x = known g.met.B.Binary.layout c.lead-lead.ensures c.fraction-digits.ensures c.scales.ensures c.requires.1 c.if-m-eq0.false c.requires.0 in
     omega (arith, (step.high_fits x c.halved-n.result c.if-size-digits.false c.if-drop-room.true c.halved-n.ensures).1)
 
@@ -60,8 +60,8 @@ returns-then-fits g c =
     let t = step.high_near x c.halved-n.result c.if-size-digits.false c.if-drop-room.true c.halved-n.ensures (omega (arith, step.top_code_lem x, true-leb _ _ c.if-fits.ensures)) in
     record { code = t.0; units = t.1 }
 
-pub overflow-shl-result-2 : goal.overflow-shl-result-2
-overflow-shl-result-2 g c =
+pub overflow_shl-result-2 : goal.overflow_shl-result-2
+overflow_shl-result-2 g c =
     let x = known g.met.B.Binary.layout c.lead-lead.ensures c.fraction-digits.ensures c.scales.ensures c.requires.1 c.if-m-eq0.false c.requires.0 in
     let t : Top g.B.Binary.format c.args.m c.args.shift =
     elim c.if-drop-room.branch [

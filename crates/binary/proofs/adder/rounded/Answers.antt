@@ -9,14 +9,14 @@ use Rattle.binary.proofs.adder.rounded.Goals as goal
 half_is : (d : ℕ) → 0 < d → d < 126 → (1 * 2 ^ (d - 1)) % 2 ^ 128 ≡ 2 ^ (d - 1)
 half_is d s l = let b = pow_below (d - 1) 128 (omega arith) in ap (λ (x : ℕ). x % 2 ^ 128) (omega arith) ∙ mod-eq_of_lt b
 
-pub overflow-sub-result : goal.overflow-sub-result
-overflow-sub-result c = omega (arith, half_is c.args.drop c.requires.1.0 c.requires.1.1.0, pow_pos (c.args.drop - 1))
+pub overflow_sub-result : goal.overflow_sub-result
+overflow_sub-result c = omega (arith, half_is c.args.drop c.requires.1.0 c.requires.1.1.0, pow_pos (c.args.drop - 1))
 
-pub overflow-add-result : goal.overflow-add-result
-overflow-add-result c = omega (arith, half_is c.args.drop c.requires.1.0 c.requires.1.1.0, pow_below (c.args.drop - 1) 126 (omega arith))
+pub overflow_add-result : goal.overflow_add-result
+overflow_add-result c = omega (arith, half_is c.args.drop c.requires.1.0 c.requires.1.1.0, pow_below (c.args.drop - 1) 126 (omega arith))
 
-pub overflow-add-result-2 : goal.overflow-add-result-2
-overflow-add-result-2 c = omega (arith, half_is c.args.drop c.requires.1.0 c.requires.1.1.0, pow_below (c.args.drop - 1) 126 (omega arith))
+pub overflow_add-result-2 : goal.overflow_add-result-2
+overflow_add-result-2 c = omega (arith, half_is c.args.drop c.requires.1.0 c.requires.1.1.0, pow_below (c.args.drop - 1) 126 (omega arith))
 
 quotient : (m d odd : ℕ) → 0 < d → d < 126 → odd ≡ m / 2 ^ d % 2 → (m + ((1 * 2 ^ (d - 1)) % 2 ^ 128 - 1) + odd) / 2 ^ d ≡ closest m (2 ^ d)
 quotient m d odd s l e =
@@ -24,8 +24,8 @@ quotient m d odd s l e =
     ap₂ (λ (x y : ℕ). (m + (x - 1) + y) / 2 ^ d) (half_is d s l) e
     ∙ subst (λ (u : ℕ). (m + (2 ^ (d - 1) - 1) + m / u % 2) / u ≡ closest m u) (sym t) (closest_sum (2 ^ (d - 1)) (pow_pos (d - 1)) m)
 
-pub overflow-cast-result-2 : goal.overflow-cast-result-2
-overflow-cast-result-2 c =
+pub overflow_cast-result-2 : goal.overflow_cast-result-2
+overflow_cast-result-2 c =
     let m = c.args.m in
     let d = c.args.drop in
     let e = quotient m d c.args.odd c.requires.1.0 c.requires.1.1.0 c.requires.1.1.1.1 in

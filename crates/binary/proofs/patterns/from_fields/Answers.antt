@@ -6,17 +6,17 @@ use Rattle.binary.proofs.Nearby.{bound_twice}
 use Rattle.binary.proofs.Fields.{worth_is, none_field, some_field, fraction_small}
 use Rattle.binary.proofs.patterns.from_fields.Goals as goal
 
-pub overflow-cast-result : goal.overflow-cast-result
-overflow-cast-result g c =
+pub overflow_cast-result : goal.overflow_cast-result
+overflow_cast-result g c =
     let f = g.B.Binary.format in
     let lay = g.met.B.Binary.layout in
     omega (arith, (number_out f lay.binary c.args.p c.requires.number).1, lay.short, c.requires.exponent)
 
-pub invariant-of-result-2 : goal.invariant-of-result-2
-invariant-of-result-2 g c =
+pub invariant_of-result-2 : goal.invariant_of-result-2
+invariant_of-result-2 g c =
     let f = g.B.Binary.format in
     let lay = g.met.B.Binary.layout in
-    (omega (arith, (number_out f lay.binary c.args.p c.requires.number).1, lay.short, c.requires.exponent), tt)
+    record { low = omega (arith, (number_out f lay.binary c.args.p c.requires.number).1, lay.short, c.requires.exponent) }
 
 pub returns-then-field-eq0 : goal.returns-then-field-eq0
 returns-then-field-eq0 g c =

@@ -4,15 +4,15 @@ use Rattle.binary.proofs.Nearby.{scale_fits, bound_twice}
 use Rattle.binary.proofs.Joins.{written_is}
 use Rattle.binary.proofs.patterns.written.Goals as goal
 
-pub overflow-mul-w : goal.overflow-mul-w
-overflow-mul-w g c =
+pub overflow_mul-w : goal.overflow_mul-w
+overflow_mul-w g c =
     let f = g.B.Binary.format in
     let lay = g.met.B.Binary.layout in
     let e : c.args.w.shift * c.lead.result ≡ c.args.w.shift * f.lead = ap (λ (x : ℕ). c.args.w.shift * x) c.lead.ensures in
     omega (arith, e, scale_fits f g.B.Binary.width lay c.args.w.shift c.requires.within, lay.word, lead_pos f)
 
-pub overflow-add-w : goal.overflow-add-w
-overflow-add-w g c =
+pub overflow_add-w : goal.overflow_add-w
+overflow_add-w g c =
     let f = g.B.Binary.format in
     let lay = g.met.B.Binary.layout in
     let e : c.args.w.shift * c.lead.result ≡ c.args.w.shift * f.lead = ap (λ (x : ℕ). c.args.w.shift * x) c.lead.ensures in

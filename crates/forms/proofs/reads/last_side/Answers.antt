@@ -6,5 +6,5 @@ use Rattle.forms.proofs.reads.last_side.Goals as goal
 
 pub returns-in-41 : goal.returns-in-41
 returns-in-41 c =
-    c.in-ok-side.ensures
-    ∙ ap (λ t. side_text c.in-ok-side.side ++ t) (text_from_reads c.in-ok-side.rest.now (codes ")") (search rules) (search rules))
+    c.in_ok-side.ensures
+    ∙ ap (λ t. side_text c.in_ok-side.side ++ t) (text_from_reads c.in_ok-side.rest.now (codes ")") (search rules) (search rules))

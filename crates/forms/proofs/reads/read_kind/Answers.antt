@@ -4,7 +4,7 @@ use Rattle.forms.proofs.reads.read_kind.Goals as goal
 
 pub returns : goal.returns
 returns c = record {
-  means = c.kind-of.ensures;
-  value = kind_value c.args.line.now c.kind-of.result c.kind-of.ensures;
+  means = c.kind_of.ensures;
+  value = kind_value c.args.line.now c.kind_of.result c.kind_of.ensures;
   exact = kinds_exact;
 }

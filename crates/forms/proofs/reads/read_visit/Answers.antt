@@ -4,7 +4,7 @@ use Rattle.forms.proofs.reads.read_visit.Goals as goal
 
 pub returns : goal.returns
 returns c = record {
-  means = c.visit-of.ensures;
-  value = visit_value c.args.digits c.args.line.now c.visit-of.result c.visit-of.ensures;
+  means = c.visit_of.ensures;
+  value = visit_value c.args.digits c.args.line.now c.visit_of.result c.visit_of.ensures;
   exact = visits_exact;
 }

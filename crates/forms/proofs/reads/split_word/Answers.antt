@@ -14,7 +14,7 @@ returns-in-40-2 c = opened (word_text Withdraw) c.args.line.now (search rules) (
 pub returns-in-40-3 : goal.returns-in-40-3
 returns-in-40-3 c = opened (word_text Read) c.args.line.now (search rules) (search rules)
 
-pub returns-in-default : goal.returns-in-default
-returns-in-default c Post rest e = grind arith
-returns-in-default c Withdraw rest e = grind arith
-returns-in-default c Read rest e = grind arith
+pub returns-in_default : goal.returns-in_default
+returns-in_default c Post rest e = grind arith
+returns-in_default c Withdraw rest e = grind arith
+returns-in_default c Read rest e = grind arith

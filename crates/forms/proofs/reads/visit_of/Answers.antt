@@ -10,5 +10,5 @@ no_visit k xs none (visit.Post s n) e = none Post _ e
 no_visit k xs none (visit.Withdraw s n) e = none Withdraw _ e
 no_visit k xs none (visit.Read s) e = none Read _ e
 
-pub returns-in-err-word : goal.returns-in-err-word
-returns-in-err-word c = rw c.from-residual.ensures (no_visit c.args.digits c.args.line.now c.in-err-word.ensures)
+pub returns-in_err-word : goal.returns-in_err-word
+returns-in_err-word c = rw c.from_residual.ensures (no_visit c.args.digits c.args.line.now c.in_err-word.ensures)

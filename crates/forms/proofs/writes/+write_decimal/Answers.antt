@@ -22,8 +22,8 @@ returns-then-n-lt10 t c =
       capacity = omega arith;
     }
 
-pub push-reserved-requires-else-n-lt10 : goal.push-reserved-requires-else-n-lt10
-push-reserved-requires-else-n-lt10 t c = omega (arith, front_short c.args.n (omega arith))
+pub push_reserved-requires-else-n-lt10 : goal.push_reserved-requires-else-n-lt10
+push_reserved-requires-else-n-lt10 t c = omega (arith, front_short c.args.n (omega arith))
 
 pub returns-else-n-lt10 : goal.returns-else-n-lt10
 returns-else-n-lt10 t c =

@@ -1,5 +1,5 @@
 -- Each call has a smaller number.
 use Rattle.forms.proofs.writes.+write_decimal.Given as goal
 
-abbrev pub decreases-write-decimal : goal.decreases-write-decimal
-decreases-write-decimal l = l.n
+abbrev pub decreases-write_decimal : goal.decreases-write_decimal
+decreases-write_decimal l = l.n

@@ -9,7 +9,7 @@ pub returns : goal.returns
 returns c =
     let hex = hex_text c.args.digits c.args.p in
     record {
-      items = then _ (codes "(number ") _ c.write-text.ensures.items (then _ hex closing c.write-hex.ensures.items c.write-text-2.ensures.items);
+      items = then _ (codes "(number ") _ c.write_text.ensures.items (then _ hex closing c.write_hex.ensures.items c.write_text-2.ensures.items);
       len = omega arith;
       capacity = omega arith;
     }

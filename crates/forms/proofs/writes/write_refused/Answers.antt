@@ -7,7 +7,7 @@ use Rattle.forms.proofs.writes.write_refused.Goals as goal
 pub returns : goal.returns
 returns c =
     record {
-      items = then (vec_items c.args.out.now) (codes "(refused ") _ c.write-text.ensures.items (then _ (decimal c.args.number) closing c.write-decimal.ensures.items c.write-text-2.ensures.items);
+      items = then (vec_items c.args.out.now) (codes "(refused ") _ c.write_text.ensures.items (then _ (decimal c.args.number) closing c.write_decimal.ensures.items c.write_text-2.ensures.items);
       len = omega arith;
       capacity = omega arith;
     }

@@ -12,12 +12,12 @@ pub returns-then-size-digits : goal.returns-then-size-digits
 returns-then-size-digits g c =
     let d : c.fraction-digits.result + 1 ≡ suc g.B.Binary.width = omega (arith, c.fraction-digits.ensures) in
     ap Some c.window.ensures
-    ∙ range.whole g.B.Binary.format g.B.Binary.width g.met.B.Binary.layout _ _ c.bit-length-size.ensures (omega (arith, d, c.if-size-digits.true))
+    ∙ range.whole g.B.Binary.format g.B.Binary.width g.met.B.Binary.layout _ _ c.bit_length-size.ensures (omega (arith, d, c.if-size-digits.true))
 
 pub returns-then-at-scales : goal.returns-then-at-scales
 returns-then-at-scales g c =
     let d : c.fraction-digits.result + 1 ≡ suc g.B.Binary.width = omega (arith, c.fraction-digits.ensures) in
-    range.long g.B.Binary.format g.B.Binary.width g.met.B.Binary.layout _ _ c.bit-length-size.ensures (omega (arith, d, c.if-size-digits.false))
+    range.long g.B.Binary.format g.B.Binary.width g.met.B.Binary.layout _ _ c.bit_length-size.ensures (omega (arith, d, c.if-size-digits.false))
     (omega (arith, d, c.if-at-scales.true, c.scales.ensures))
 
 -- what the code holds: the digits, the size, the lead and the rounded coefficient
@@ -43,32 +43,32 @@ module _ (f : Format) (k : ℕ) (lay : Layout f k) (m s D L : ℕ) (size : Least
   sum_fits : (n : ℕ) → Rounded m (2 ^ (s - D)) n → (s - D) * L + n < 2 ^ 64
   sum_fits n r = omega (arith, times, range.code_fits f k lay m s size place within n (near n r), lay.word)
 
-pub overflow-mul-at : goal.overflow-mul-at
-overflow-mul-at g c =
+pub overflow_mul-at : goal.overflow_mul-at
+overflow_mul-at g c =
     let e = c.fraction-digits.ensures in
     omega (
       arith,
-      mul_fits g.B.Binary.format g.B.Binary.width g.met.B.Binary.layout (bits c.args.m.now) c.bit-length-size.result (c.fraction-digits.result + 1) c.lead.result
-          c.bit-length-size.ensures (omega (arith, e)) c.lead.ensures c.if-size-digits.false (omega (arith, c.if-at-scales.false, c.scales.ensures)),
+      mul_fits g.B.Binary.format g.B.Binary.width g.met.B.Binary.layout (bits c.args.m.now) c.bit_length-size.result (c.fraction-digits.result + 1) c.lead.result
+          c.bit_length-size.ensures (omega (arith, e)) c.lead.ensures c.if-size-digits.false (omega (arith, c.if-at-scales.false, c.scales.ensures)),
     )
 
-pub rounded-at-requires : goal.rounded-at-requires
-rounded-at-requires g c =
+pub rounded_at-requires : goal.rounded_at-requires
+rounded_at-requires g c =
     record {
       place = omega (arith, c.if-size-digits.false);
       size =
-          part g.B.Binary.format g.B.Binary.width g.met.B.Binary.layout _ _ _ _ c.bit-length-size.ensures (omega (arith, c.fraction-digits.ensures)) c.lead.ensures
+          part g.B.Binary.format g.B.Binary.width g.met.B.Binary.layout _ _ _ _ c.bit_length-size.ensures (omega (arith, c.fraction-digits.ensures)) c.lead.ensures
           c.if-size-digits.false (omega (arith, c.if-at-scales.false, c.scales.ensures));
     }
 
-pub overflow-add-at : goal.overflow-add-at
-overflow-add-at g c =
+pub overflow_add-at : goal.overflow_add-at
+overflow_add-at g c =
     let e = c.fraction-digits.ensures in
     omega (
       arith,
-      sum_fits g.B.Binary.format g.B.Binary.width g.met.B.Binary.layout (bits c.args.m.now) c.bit-length-size.result (c.fraction-digits.result + 1) c.lead.result
-          c.bit-length-size.ensures (omega (arith, e)) c.lead.ensures c.if-size-digits.false (omega (arith, c.if-at-scales.false, c.scales.ensures)) c.rounded-at.result
-          c.rounded-at.ensures,
+      sum_fits g.B.Binary.format g.B.Binary.width g.met.B.Binary.layout (bits c.args.m.now) c.bit_length-size.result (c.fraction-digits.result + 1) c.lead.result
+          c.bit_length-size.ensures (omega (arith, e)) c.lead.ensures c.if-size-digits.false (omega (arith, c.if-at-scales.false, c.scales.ensures)) c.rounded_at.result
+          c.rounded_at.ensures,
     )
 
 pub returns : goal.returns
@@ -77,15 +77,15 @@ returns g c =
     let k = g.B.Binary.width in
     let lay = g.met.B.Binary.layout in
     let m = bits c.args.m.now in
-    let s = c.bit-length-size.result in
+    let s = c.bit_length-size.result in
     let D = c.fraction-digits.result + 1 in
     let L = c.lead.result in
-    let n = c.rounded-at.result in
-    let size = c.bit-length-size.ensures in
+    let n = c.rounded_at.result in
+    let size = c.bit_length-size.ensures in
     let e_d : D ≡ suc k = omega (arith, c.fraction-digits.ensures) in
     let more : D < s = c.if-size-digits.false in
     let fits : s - D ≤ f.scales = omega (arith, c.if-at-scales.false, c.scales.ensures) in
     c.in_range.ensures
     ∙ range.last f k lay m s size (place f k lay m s D L size e_d c.lead.ensures more fits) (within f k lay m s D L size e_d c.lead.ensures more fits) n
-    (near f k lay m s D L size e_d c.lead.ensures more fits n c.rounded-at.ensures) ((s - D) * L + n)
+    (near f k lay m s D L size e_d c.lead.ensures more fits n c.rounded_at.ensures) ((s - D) * L + n)
     (ap (λ (x : ℕ). x + n) (times f k lay m s D L size e_d c.lead.ensures more fits))

@@ -11,16 +11,16 @@ signed-requires c = (number_out c.args.a c.requires.0).0
 pub signed-requires-2 : goal.signed-requires-2
 signed-requires-2 c = (number_out c.args.b c.requires.1).0
 
-pub overflow-add-total : goal.overflow-add-total
-overflow-add-total c = omega (arith, ints, (number_out c.args.a c.requires.0).1, (number_out c.args.b c.requires.1).1)
+pub overflow_add-total : goal.overflow_add-total
+overflow_add-total c = omega (arith, ints, (number_out c.args.a c.requires.0).1, (number_out c.args.b c.requires.1).1)
 
 pub pattern-requires : goal.pattern-requires
 pattern-requires c =
     let k = summed c.requires.0 c.requires.1 c.signed.ensures c.signed-2.ensures c.clamped-sum.ensures in
     omega (arith, ints, k.small)
 
-pub overflow-sub-total : goal.overflow-sub-total
-overflow-sub-total c =
+pub overflow_sub-total : goal.overflow_sub-total
+overflow_sub-total c =
     let k = summed c.requires.0 c.requires.1 c.signed.ensures c.signed-2.ensures c.clamped-sum.ensures in
     omega (arith, ints, k.total, k.rest)
 

@@ -7,8 +7,8 @@ use Rattle.kinds.proofs.count.turned.Goals as goal
 pub signed-requires : goal.signed-requires
 signed-requires c = (number_out c.args.p c.requires).0
 
-pub overflow-sub-signed : goal.overflow-sub-signed
-overflow-sub-signed c = omega (arith, ints, (number_out c.args.p c.requires).1)
+pub overflow_sub-signed : goal.overflow_sub-signed
+overflow_sub-signed c = omega (arith, ints, (number_out c.args.p c.requires).1)
 
 pub pattern-requires : goal.pattern-requires
 pattern-requires c = omega (arith, ints, (number_out c.args.p c.requires).1)

@@ -21,11 +21,11 @@ loop-i-preserved g c =
       c.post.ensures.sound,
       c.loop-i.invariant.1,
       c.post.ensures.after
-          ∙ granted k p _ c.post.ensures.answer c.in-ok-post.was
+          ∙ granted k p _ c.post.ensures.answer c.in_ok-post.was
           ∙ ap (with_entry (k.worth p)) c.loop-i.invariant.2
           ∙ ap (λ (q : ℕ). with_entry (k.worth q) m) is
           ∙ kept_more k.worth ps (a.meaning first) i h,
       subst (λ (qs : List ℕ). EntersAll a.enters first qs c.post.new.self) (sym (take_more ps i 0 h))
           (enters_push a.enters first c.loop-i.s.below c.post.new.self (take i ps) (get_or ps i 0) c.loop-i.invariant.3
-          (subst (λ (q : ℕ). a.enters c.loop-i.s.below q c.post.new.self) is c.in-ok-post.ensures.leaves)),
+          (subst (λ (q : ℕ). a.enters c.loop-i.s.below q c.post.new.self) is c.in_ok-post.ensures.leaves)),
     )

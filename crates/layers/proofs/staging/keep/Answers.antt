@@ -8,8 +8,8 @@ pub returns : goal.returns
 returns g c =
     let k = g.K.Kind in
     let p = c.args.p in
-    let ready = c.make-room.new.s in
-    let e = c.make-room.ensures in
+    let ready = c.make_room.new.s in
+    let e = c.make_room.ensures in
     let n = ready.tray.len in
     let after = c.push.new.self in
     let m = g.A.Account.meaning ready.below in

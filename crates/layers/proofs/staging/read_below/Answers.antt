@@ -7,8 +7,8 @@ use Rattle.layers.proofs.staging.read_below.Goals as goal
 pub returns : goal.returns
 returns g c =
     let k = g.K.Kind in
-    let ready = c.hand-down.new.s in
-    let e = c.hand-down.ensures in
+    let ready = c.hand_down.new.s in
+    let e = c.hand_down.ensures in
     let r = c.read.ensures in
     let m = g.A.Account.meaning ready.below in
     let below = kept_none k.worth ready.tray.kept m ready.tray.len e.handed.none in

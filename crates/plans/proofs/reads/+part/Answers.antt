@@ -15,19 +15,19 @@ pub returns-then-left-owed : goal.returns-then-left-owed
 returns-then-left-owed t c =
     stop_open (omega arith) (omega arith) c.in-40.is c.if-left-owed.true
 
-pub returns-in-err-first : goal.returns-in-err-first
-returns-in-err-first t c =
-    let r = err_from_is_err_and c.from-residual.result c.from-residual.ensures.1 in
-    rw (r.1, r.2) (stop_first c.if-at-text.false c.in-40.is c.in-err-first.ensures)
+pub returns-in_err-first-in-40 : goal.returns-in_err-first-in-40
+returns-in_err-first-in-40 t c =
+    let r = err_from_is_err_and c.from_residual.result c.from_residual.ensures.1 in
+    rw (r.1, r.2) (stop_first c.if-at-text.false c.in-40.is c.in_err-first-in-40.ensures)
 
-pub returns-in-err-second : goal.returns-in-err-second
-returns-in-err-second t c =
-    let r = err_from_is_err_and c.from-residual-in-err-second.result c.from-residual-in-err-second.ensures.1 in
-    rw (r.1, r.2) (stop_second c.if-at-text.false c.in-40.is c.in-ok-first.ensures c.in-err-second.ensures)
+pub returns-in_err-second-in-40 : goal.returns-in_err-second-in-40
+returns-in_err-second-in-40 t c =
+    let r = err_from_is_err_and c.from_residual-in_err-second-in-40.result c.from_residual-in_err-second-in-40.ensures.1 in
+    rw (r.1, r.2) (stop_second c.if-at-text.false c.in-40.is c.in_ok-first-in-40.ensures c.in_err-second-in-40.ensures)
 
 pub returns-then-end-text : goal.returns-then-end-text
 returns-then-end-text t c =
-    stop_close c.if-at-text.false c.in-40.is c.in-ok-first.ensures c.in-ok-second.ensures (λ d o. omega arith)
+    stop_close c.if-at-text.false c.in-40.is c.in_ok-first-in-40.ensures c.in_ok-second-in-40.ensures (λ d o. omega arith)
 
 pub returns-else-owed-eq0 : goal.returns-else-owed-eq0
 returns-else-owed-eq0 t c =
@@ -35,11 +35,11 @@ returns-else-owed-eq0 t c =
 
 pub returns-in-41 : goal.returns-in-41
 returns-in-41 t c =
-    read_pair c.if-at-text.false c.in-40.is c.in-ok-first.ensures c.in-ok-second.ensures c.if-end-text.false c.in-41.is
+    read_pair c.if-at-text.false c.in-40.is c.in_ok-first-in-40.ensures c.in_ok-second-in-40.ensures c.if-end-text.false c.in-41.is
 
-pub returns-in-default-2 : goal.returns-in-default-2
-returns-in-default-2 t c =
-    stop_close c.if-at-text.false c.in-40.is c.in-ok-first.ensures c.in-ok-second.ensures (λ d o. omega arith)
+pub returns-in_default-2 : goal.returns-in_default-2
+returns-in_default-2 t c =
+    stop_close c.if-at-text.false c.in-40.is c.in_ok-first-in-40.ensures c.in_ok-second-in-40.ensures (λ d o. omega arith)
 
-pub returns-in-default : goal.returns-in-default
-returns-in-default t c = stop_other (omega arith) (omega arith) (λ e. omega arith) (λ e. omega arith)
+pub returns-in_default : goal.returns-in_default
+returns-in_default t c = stop_other (omega arith) (omega arith) (λ e. omega arith) (λ e. omega arith)

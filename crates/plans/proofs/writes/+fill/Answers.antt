@@ -25,7 +25,7 @@ returns t c =
     let long-r : length c.fill-2.new.text + 2 ≡ 3 * r = ap (λ x. length x + 2) c.fill-2.ensures.filled ∙ halving_length r (omega arith) in
     record {
       filled =
-          pair_filled c.args.text.now c.fill.new.text c.fill-2.new.text (1 + c.plan-bytes-middle.result) (length c.args.text.now - 1) (omega arith) (omega arith) (omega arith)
+          pair_filled c.args.text.now c.fill.new.text c.fill-2.new.text (1 + c.plan_bytes-middle.result) (length c.args.text.now - 1) (omega arith) (omega arith) (omega arith)
           ∙ ap₂ (λ a b. 40 ∷ (a ++ (b ++ (41 ∷ [])))) c.fill.ensures.filled c.fill-2.ensures.filled ∙ sym (ap text is);
       rule = halving_rule;
     }

@@ -7,8 +7,8 @@ use Rattle.register.specs.Whole.{half_pos, limb_lt}
 use Rattle.register.specs.Wrapping.{wrap_is}
 use Rattle.register.proofs.Register.of_limb.Goals as goal
 
-pub invariant-of-result : goal.invariant-of-result
-invariant-of-result c = let fits : c.args.low < 2 ^ 64 = search rules in (refl, (small_set (replicate 34 0) 0 c.args.low (zeros_small 34) fits, tt))
+pub invariant_of-result : goal.invariant_of-result
+invariant_of-result c = let fits : c.args.low < 2 ^ 64 = search rules in record { long = refl; small = small_set (replicate 34 0) 0 c.args.low (zeros_small 34) fits }
 
 pub returns : goal.returns
 returns c =

@@ -12,10 +12,10 @@ returns c =
     let q = n / 2 ^ at in
     let w = 2 ^ (at - 1) in
     let p = parts n at c.requires.place in
-    let whole : c.bits-from-whole.result ≡ q = c.bits-from-whole.ensures ∙ mod-eq_of_lt (omega (arith, c.requires.size)) in
-    let half : c.bits-from-half.result % 2 ≡ n / w % 2 = ap (λ x. x % 2) c.bits-from-half.ensures ∙ omega arith in
-    let more = c.low-bits-more.ensures in
-    let is : c.min-up.result ≡ min (n / w % 2) (max (bool_byte c.low-bits-more.result) (q % 2)) = omega (arith, c.min-up.ensures, c.max.ensures, half, whole) in
-    let r = rounds n q w (n / w % 2) (n % w) (bool_byte c.low-bits-more.result) c.min-up.result p.0 (omega arith) (mod-lt n (pow_pos (at - 1)))
+    let whole : c.bits_from-whole.result ≡ q = c.bits_from-whole.ensures ∙ mod-eq_of_lt (omega (arith, c.requires.size)) in
+    let half : c.bits_from-half.result % 2 ≡ n / w % 2 = ap (λ x. x % 2) c.bits_from-half.ensures ∙ omega arith in
+    let more = c.low_bits-more.ensures in
+    let is : c.min-up.result ≡ min (n / w % 2) (max (bool_byte c.low_bits-more.result) (q % 2)) = omega (arith, c.min-up.ensures, c.max.ensures, half, whole) in
+    let r = rounds n q w (n / w % 2) (n % w) (bool_byte c.low_bits-more.result) c.min-up.result p.0 (omega arith) (mod-lt n (pow_pos (at - 1)))
     (λ l. ap bool_byte (more ∙ lt-ltb 0 (n % w) l)) (λ l. ap bool_byte (more ∙ le-ltb 0 (n % w) l)) is in
-    subst (λ x. Rounded n x (c.bits-from-whole.result + c.min-up.result)) (sym p.1) (subst (λ x. Rounded n (2 * w) (x + c.min-up.result)) (sym whole) r)
+    subst (λ x. Rounded n x (c.bits_from-whole.result + c.min-up.result)) (sym p.1) (subst (λ x. Rounded n (2 * w) (x + c.min-up.result)) (sym whole) r)

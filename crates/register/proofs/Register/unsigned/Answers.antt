@@ -9,10 +9,10 @@ use Rattle.register.proofs.Register.unsigned.Goals as goal
 pub returns-then-negative : goal.returns-then-negative
 returns-then-negative c =
     let s = c.args.self.now in
-    let from : value c.of-limb-opposite.result ≡ pos 0 = ap value c.of-limb-opposite.ensures ∙ value_of (pos 0) ∙ wrap_zero in
-    let is : value c.subtract-limbs.new.self ≡ wrap (neg_ℤ (value s)) =
-    ap value c.subtract-limbs.ensures ∙ value_of _ ∙ ap (λ z. wrap (z -ℤ value s)) from ∙ ap wrap (+ℤ_idl (neg_ℤ (value s))) in
-    magnitude_opposite c.subtract-limbs.new.self s (sym c.requires ∙ c.if-negative.true) is
+    let from : value c.of_limb-opposite.result ≡ pos 0 = ap value c.of_limb-opposite.ensures ∙ value_of (pos 0) ∙ wrap_zero in
+    let is : value c.subtract_limbs.new.self ≡ wrap (neg_ℤ (value s)) =
+    ap value c.subtract_limbs.ensures ∙ value_of _ ∙ ap (λ z. wrap (z -ℤ value s)) from ∙ ap wrap (+ℤ_idl (neg_ℤ (value s))) in
+    magnitude_opposite c.subtract_limbs.new.self s (sym c.requires ∙ c.if-negative.true) is
 
 pub returns-else-negative : goal.returns-else-negative
 returns-else-negative c = magnitude_same c.args.self.now (sym c.requires ∙ c.if-negative.false)

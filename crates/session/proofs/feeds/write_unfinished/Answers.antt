@@ -12,6 +12,6 @@ some o e (x ∷ xs) h q = q
 pub returns-then-line-gt0 : goal.returns-then-line-gt0
 returns-then-line-gt0 c =
     record {
-      items = some (vec_items c.args.out.now) _ c.args.line.now c.if-line-gt0.true c.write-answer.ensures.items;
-      room = omega (arith, c.write-answer.ensures.len, c.write-answer.ensures.capacity);
+      items = some (vec_items c.args.out.now) _ c.args.line.now c.if-line-gt0.true c.write_answer.ensures.items;
+      room = omega (arith, c.write_answer.ensures.len, c.write_answer.ensures.capacity);
     }

@@ -27,7 +27,7 @@ loop-p-preserved g c =
     let more : exact_sum k (take (i + 1) xs) ≡ sum +ℤ k.worth x =
     ap (exact_sum k) (take_more xs i 0 c.loop-p-test.true) ∙ exact_sum_append k (take i xs) (x ∷ []) ∙ ap (λ z. sum +ℤ z) (+ℤ_idr (k.worth x))
     in
-    ap value c.add-scaled.ensures ∙ value_of _ ∙ ap (λ z. wrap (value c.loop-p.sum +ℤ z)) c.worth.ensures ∙ ap (λ z. wrap (z +ℤ k.worth x)) c.loop-p.invariant
+    ap value c.add_scaled.ensures ∙ value_of _ ∙ ap (λ z. wrap (value c.loop-p.sum +ℤ z)) c.worth.ensures ∙ ap (λ z. wrap (z +ℤ k.worth x)) c.loop-p.invariant
     ∙ wrap_left half half_pos sum (k.worth x) ∙ ap wrap (sym more)
 
 pub returns : goal.returns

@@ -4,14 +4,14 @@ use Rattle.settle.specs.Seen.{Many}
 use Rattle.settle.proofs.Folded.{Ones, ones_more, many}
 use Rattle.settle.proofs.gauging.gauge_of.Goals as goal
 
-pub gauge-of-number-requires : goal.gauge-of-number-requires
-gauge-of-number-requires g c = numbers_at g.K.Kind _ _ c.loop-i-test.true c.requires.0
+pub gauge_of_number-requires : goal.gauge_of_number-requires
+gauge_of_number-requires g c = numbers_at g.K.Kind _ _ c.loop-i-test.true c.requires.0
 
 pub loop-i-preserved : goal.loop-i-preserved
 loop-i-preserved g c =
     let room : c.loop-i.i < length c.loop-i.gauges = omega (arith, c.loop-i-test.true, c.loop-i.invariant.0, c.requires.1) in (
-      length-set c.loop-i.gauges c.loop-i.i c.gauge-of-number.result ∙ c.loop-i.invariant.0,
-      ones_more g.K.Kind c.args.numbers.now c.loop-i.gauges c.loop-i.i c.gauge-of-number.result c.loop-i-test.true room c.loop-i.invariant.1 c.gauge-of-number.ensures,
+      length-set c.loop-i.gauges c.loop-i.i c.gauge_of_number.result ∙ c.loop-i.invariant.0,
+      ones_more g.K.Kind c.args.numbers.now c.loop-i.gauges c.loop-i.i c.gauge_of_number.result c.loop-i-test.true room c.loop-i.invariant.1 c.gauge_of_number.ensures,
     )
 
 pub returns : goal.returns

@@ -9,7 +9,7 @@ pub returns : goal.returns
 returns g c =
     let worth = g.K.Kind.worth c.args.p in
     let z =
-    subst (λ m. LeastBits m c.bit-length-peak.result) (c.magnitude.ensures ∙ ap nat_abs (c.sum-of.ensures ∙ +ℤ_idr worth)) c.bit-length-peak.ensures
+    subst (λ m. LeastBits m c.bit_length-peak.result) (c.magnitude.ensures ∙ ap nat_abs (c.sum_of.ensures ∙ +ℤ_idr worth)) c.bit_length-peak.ensures
     in
     record {
       counted = elim c.if-peak-gt0.branch [

@@ -31,15 +31,15 @@ loop-outcome-preserved g c =
     let more : c.loop-outcome.passes < c.args.budget = omega arith in
     let whole = ap (λ n. replicate n 0 ++ drop n c.loop-outcome.column) s.same in
     let before = c.loop-outcome.invariant.1 ∙ c.clear.ensures in (
-      again _ g.met.K.Kind.lawful _ _ _ _ _ _ s more c.in-default.ensures c.pass-by.ensures.slots,
-      cleared_again (length c.args.slots.now) c.args.column.now c.loop-outcome.column _ before (c.pass-by.ensures.column ∙ whole) ∙ c.loop-outcome.invariant.1,
+      again _ g.met.K.Kind.lawful _ _ _ _ _ _ s more c.in_default.ensures c.pass_by.ensures.slots,
+      cleared_again (length c.args.slots.now) c.args.column.now c.loop-outcome.column _ before (c.pass_by.ensures.column ∙ whole) ∙ c.loop-outcome.invariant.1,
     )
 
 pub returns : goal.returns
 returns g c =
     let k = g.K.Kind in
     let s = c.loop-outcome.invariant.0 in
-    let is = c.outcome.ensures ∙ ap (λ z. answered (k.outcome z)) (c.sum-of.ensures ∙ s.total) in
+    let is = c.outcome.ensures ∙ ap (λ z. answered (k.outcome z)) (c.sum_of.ensures ∙ s.total) in
     record {
       answer =
           record {
@@ -51,7 +51,7 @@ returns g c =
             most = s.most;
             left = s.left;
             earlier = s.earlier;
-            ended = (c.if-passes-budget.true, c.in-default.ensures);
+            ended = (c.if-passes-budget.true, c.in_default.ensures);
           };
       column = c.loop-outcome.invariant.1 ∙ c.clear.ensures;
     }

@@ -13,37 +13,37 @@ use Rattle.settle.proofs.Ends.{raised, lowered, minus_zero}
 use Rattle.settle.proofs.test.ends.Goals as goal
 use Rattle.settle.proofs.test.ends.Goals.{then-gauge-gt0, else-gauge-gt0}
 
-pub gauge-of-gauge-requires : goal.gauge-of-gauge-requires
-gauge-of-gauge-requires g c =
+pub gauge_of-gauge-requires : goal.gauge_of-gauge-requires
+gauge_of-gauge-requires g c =
     let xs = c.args.slots.now in
     rw (take_rest xs 2) (numbers_drop g.K.Kind 2 xs c.requires.0, simp length-drop (omega (arith, c.requires.1.1)))
 
-pub sum-of-high-requires : goal.sum-of-high-requires
-sum-of-high-requires g c =
+pub sum_of-high-requires : goal.sum_of-high-requires
+sum_of-high-requires g c =
     let xs = c.args.slots.now in
     (numbers_take g.K.Kind 2 xs c.requires.0, omega (arith, length-take 2 xs))
 
 pub ceiling-requires : goal.ceiling-requires
 ceiling-requires g c =
     let xs = c.args.slots.now in
-    let seen = subst (λ ys. Many g.K.Kind ys c.gauge-of-gauge.result) (take_rest xs 2) c.gauge-of-gauge.ensures in
+    let seen = subst (λ ys. Many g.K.Kind ys c.gauge_of-gauge.result) (take_rest xs 2) c.gauge_of-gauge.ensures in
     omega (arith, seen.counted, in_use_length g.K.Kind (drop 2 xs), length-drop 2 xs, c.requires.1.1)
 
-pub overflow-add-shift : goal.overflow-add-shift
-overflow-add-shift g c =
+pub overflow_add-shift : goal.overflow_add-shift
+overflow_add-shift g c =
     let xs = c.args.slots.now in
     let k = g.K.Kind in
-    let seen = subst (λ ys. Many k ys c.gauge-of-gauge.result) (take_rest xs 2) c.gauge-of-gauge.ensures in
-    let few : c.gauge-of-gauge.result.count ≤ 4096 = omega (arith, seen.counted, in_use_length k (drop 2 xs), length-drop 2 xs, c.requires.1.1) in
+    let seen = subst (λ ys. Many k ys c.gauge_of-gauge.result) (take_rest xs 2) c.gauge_of-gauge.ensures in
+    let few : c.gauge_of-gauge.result.count ≤ 4096 = omega (arith, seen.counted, in_use_length k (drop 2 xs), length-drop 2 xs, c.requires.1.1) in
     let small = power_small k g.met.K.Kind.lawful (drop 2 xs) _ _ _ (numbers_drop k 2 xs c.requires.0) few c.ceiling.ensures seen.peak in
     omega (arith, small)
 
-pub invariant-of-add-scaled : goal.invariant-of-add-scaled
-invariant-of-add-scaled g c =
+pub invariant_of-add_scaled : goal.invariant_of-add_scaled
+invariant_of-add_scaled g c =
     let xs = c.args.slots.now in
     let k = g.K.Kind in
-    let seen = subst (λ ys. Many k ys c.gauge-of-gauge.result) (take_rest xs 2) c.gauge-of-gauge.ensures in
-    let few : c.gauge-of-gauge.result.count ≤ 4096 = omega (arith, seen.counted, in_use_length k (drop 2 xs), length-drop 2 xs, c.requires.1.1) in
+    let seen = subst (λ ys. Many k ys c.gauge_of-gauge.result) (take_rest xs 2) c.gauge_of-gauge.ensures in
+    let few : c.gauge_of-gauge.result.count ≤ 4096 = omega (arith, seen.counted, in_use_length k (drop 2 xs), length-drop 2 xs, c.requires.1.1) in
     let small = power_small k g.met.K.Kind.lawful (drop 2 xs) _ _ _ (numbers_drop k 2 xs c.requires.0) few c.ceiling.ensures seen.peak in
     (omega (arith, small), tt)
 
@@ -52,29 +52,29 @@ returns g c =
     let k = g.K.Kind in
     let law = g.met.K.Kind.lawful in
     let xs = c.args.slots.now in
-    let seen = subst (λ ys. Many k ys c.gauge-of-gauge.result) (take_rest xs 2) c.gauge-of-gauge.ensures in
+    let seen = subst (λ ys. Many k ys c.gauge_of-gauge.result) (take_rest xs 2) c.gauge_of-gauge.ensures in
     let used = in_use_length k (drop 2 xs) in
     let long = length-drop 2 xs in
-    let all : c.gauge-of-gauge.result.count ≡ in_use k (drop 2 xs) = omega (arith, seen.counted, used, long, c.requires.1.1) in
+    let all : c.gauge_of-gauge.result.count ≡ in_use k (drop 2 xs) = omega (arith, seen.counted, used, long, c.requires.1.1) in
     let first = exact_sum k (take 2 xs) in
     let two = numbers_take k 2 xs c.requires.0 in
     let short : length (take 2 xs) ≤ 4096 = omega (arith, length-take 2 xs) in
     elim c.if-gauge-gt0.branch [
       | then-gauge-gt0 w ↦
-          let few : c.gauge-of-gauge.result.count ≤ 4096 = omega (arith, all, used, long, c.requires.1.1) in
+          let few : c.gauge_of-gauge.result.count ≤ 4096 = omega (arith, all, used, long, c.requires.1.1) in
           let small = power_small k law (drop 2 xs) _ _ _ (numbers_drop k 2 xs c.requires.0) few w.ceiling.ensures seen.peak in
-          let s = w.ceiling.result + c.gauge-of-gauge.result.peak in
+          let s = w.ceiling.result + c.gauge_of-gauge.result.peak in
           record {
             bound = 2 ^ s;
-            reach = some w.ceiling.result c.gauge-of-gauge.result.peak (omega (arith, all, w.if-gauge-gt0.true)) (subst (λ n. Ceiling n w.ceiling.result) all w.ceiling.ensures) seen.peak;
-            higher = c.outcome.ensures ∙ ap (λ z. answered (k.outcome z)) (ap value (w.high-is ∙ w.add-scaled.ensures) ∙ raised c.sum-of-high.result first s c.sum-of-high.ensures (exact_up k law (take 2 xs) s two short small));
-            lower = c.outcome-2.ensures ∙ ap (λ z. answered (k.outcome z)) (ap value (w.low-is ∙ w.add-scaled-then-gauge-gt0.ensures) ∙ lowered c.sum-of-high.result first s c.sum-of-high.ensures (exact_down k law (take 2 xs) s two short small));
+            reach = some w.ceiling.result c.gauge_of-gauge.result.peak (omega (arith, all, w.if-gauge-gt0.true)) (subst (λ n. Ceiling n w.ceiling.result) all w.ceiling.ensures) seen.peak;
+            higher = c.outcome.ensures ∙ ap (λ z. answered (k.outcome z)) (ap value (w.high-is ∙ w.add_scaled.ensures) ∙ raised c.sum_of-high.result first s c.sum_of-high.ensures (exact_up k law (take 2 xs) s two short small));
+            lower = c.outcome-2.ensures ∙ ap (λ z. answered (k.outcome z)) (ap value (w.low-is ∙ w.add_scaled-then-gauge-gt0.ensures) ∙ lowered c.sum_of-high.result first s c.sum_of-high.ensures (exact_down k law (take 2 xs) s two short small));
           }
       | else-gauge-gt0 w ↦
           record {
             bound = 0;
             reach = none (omega (arith, all, w.if-gauge-gt0.false));
-            higher = c.outcome.ensures ∙ ap (λ z. answered (k.outcome z)) (ap value w.high-is ∙ c.sum-of-high.ensures ∙ sym (+ℤ_idr first));
-            lower = c.outcome-2.ensures ∙ ap (λ z. answered (k.outcome z)) (ap value w.low-is ∙ c.sum-of-high.ensures ∙ sym (minus_zero first));
+            higher = c.outcome.ensures ∙ ap (λ z. answered (k.outcome z)) (ap value w.high-is ∙ c.sum_of-high.ensures ∙ sym (+ℤ_idr first));
+            lower = c.outcome-2.ensures ∙ ap (λ z. answered (k.outcome z)) (ap value w.low-is ∙ c.sum_of-high.ensures ∙ sym (minus_zero first));
           }
     ]

@@ -3,17 +3,17 @@ use Rattle.slots.proofs.Keeps.{numbers_at}
 use Rattle.slips.proofs.Filling.{above_less, numbers_set, in_use_set, exact_sum_set}
 use Rattle.slips.proofs.lodging.fill.Goals as goal
 
-pub is-zero-requires : goal.is-zero-requires
-is-zero-requires g c = numbers_at g.K.Kind _ _ c.loop-at.invariant.within c.requires.numbers
+pub is_zero-requires : goal.is_zero-requires
+is_zero-requires g c = numbers_at g.K.Kind _ _ c.loop-at.invariant.within c.requires.numbers
 
 pub loop-at-preserved : goal.loop-at-preserved
-loop-at-preserved g c = above_less g.K.Kind _ _ c.requires.room c.loop-at.invariant (c.is-zero.ensures.no c.if-is-zero.false)
+loop-at-preserved g c = above_less g.K.Kind _ _ c.requires.room c.loop-at.invariant (c.is_zero.ensures.no c.if-is_zero.false)
 
 pub returns : goal.returns
 returns g c =
     let k = g.K.Kind in
     let i = c.loop-at.invariant in
-    let zero = c.is-zero.ensures.yes c.if-is-zero.true in
+    let zero = c.is_zero.ensures.yes c.if-is_zero.true in
     record {
       filled =
           record {

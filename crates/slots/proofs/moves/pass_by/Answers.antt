@@ -10,11 +10,11 @@ loop-byte-init g c = begin _ g.met.K.Kind.lawful _ _ _ c.requires.count.0 c.requ
 pub bounds-slots-next : goal.bounds-slots-next
 bounds-slots-next g c = (dot_room _ g.met.K.Kind.lawful _ _ _ _ _ _ _ _ _ c.loop-byte.invariant c.loop-byte-test.true c.in-46.is).0
 
-pub overflow-sub-low : goal.overflow-sub-low
-overflow-sub-low g c = (two _ g.met.K.Kind.lawful _ _ _ _ _ _ _ _ _ c.loop-byte.invariant c.loop-byte-test.true c.in-41.is).enough
+pub overflow_sub-low : goal.overflow_sub-low
+overflow_sub-low g c = (two _ g.met.K.Kind.lawful _ _ _ _ _ _ _ _ _ c.loop-byte.invariant c.loop-byte-test.true c.in-41.is).enough
 
-pub add-pair-requires : goal.add-pair-requires
-add-pair-requires g c =
+pub add_pair-requires : goal.add_pair-requires
+add_pair-requires g c =
     let w = two _ g.met.K.Kind.lawful _ _ _ _ _ _ _ _ _ c.loop-byte.invariant c.loop-byte-test.true c.in-41.is in
     record { places = (omega (arith, w.enough, w.fits), w.inside); numbers = (w.left, w.right) }
 
@@ -32,11 +32,11 @@ loop-byte-preserved g c =
       | in-40 w ↦ moved _ law _ _ _ (at_open _ law _ _ _ _ _ _ _ _ _ s t w.in-40.is) w.slots-is w.column-is w.next-is w.held-is w.pairs-is
       | in-41 w ↦
           moved _ law _ _ _ (at_close _ law _ _ _ _ _ _ _ _ _ s t w.in-41.is)
-          (w.slots-is ∙ w.add-pair.ensures.slots) (w.column-is ∙ w.add-pair.ensures.column) w.next-is w.held-is w.pairs-is
+          (w.slots-is ∙ w.add_pair.ensures.slots) (w.column-is ∙ w.add_pair.ensures.column) w.next-is w.held-is w.pairs-is
     ]
 
-pub add-lead-requires : goal.add-lead-requires
-add-lead-requires g c =
+pub add_lead-requires : goal.add_lead-requires
+add_lead-requires g c =
     let law = g.met.K.Kind.lawful in
     let s = c.loop-byte.invariant in
     record {
@@ -51,7 +51,7 @@ pub returns : goal.returns
 returns g c =
     let law = g.met.K.Kind.lawful in
     let s = c.loop-byte.invariant in
-    let after = c.add-lead.ensures in
+    let after = c.add_lead.ensures in
     record {
       slots =
           subst (Passed g.K.Kind c.args.plan.now c.args.slots.now) (sym after)

@@ -4,10 +4,10 @@ use Rattle.register.specs.Laws.{value_of, wrap_zero}
 use Rattle.accounts.specs.Reach.{reach}
 use Rattle.accounts.proofs.register_account.RegisterAccount.balanced.Goals as goal
 
-pub invariant-of-result : goal.invariant-of-result
-invariant-of-result c =
+pub invariant_of-result : goal.invariant_of-result
+invariant_of-result c =
     let is : value c.zero.result ≡ pos 0 = ap value c.zero.ensures ∙ value_of (pos 0) ∙ wrap_zero in
-    (search rules, (subst (λ (z : ℤ). nat_abs z ≤ c.args.count * reach) (sym is) (omega arith), tt))
+    record { few = search rules; within = subst (λ (z : ℤ). nat_abs z ≤ c.args.count * reach) (sym is) (omega arith) }
 
 pub returns : goal.returns
 returns c =

@@ -10,7 +10,7 @@ use Rattle.books.proofs.ledger.Ledger.call.Goals as goal
 pub returns-in-Post : goal.returns-in-Post
 returns-in-Post g c =
     let e = c.post.ensures in
-    let told = c.done-or.ensures ∙ ap (λ (r : Result (Unit {0}) Refusal). answer_by r Done) e.answer in
+    let told = c.done_or.ensures ∙ ap (λ (r : Result (Unit {0}) Refusal). answer_by r Done) e.answer in
     let load = load_of c.args.blade in
     record {
       sound = e.sound;
@@ -23,7 +23,7 @@ returns-in-Post g c =
 pub returns-in-Withdraw : goal.returns-in-Withdraw
 returns-in-Withdraw g c =
     let e = c.withdraw.ensures in
-    let told = c.done-or-in-Withdraw.ensures ∙ ap (λ (r : Result (Unit {0}) Refusal). answer_by r Done) e.answer in
+    let told = c.done_or-in-Withdraw.ensures ∙ ap (λ (r : Result (Unit {0}) Refusal). answer_by r Done) e.answer in
     let load = load_of c.args.blade in
     record {
       sound = e.sound;

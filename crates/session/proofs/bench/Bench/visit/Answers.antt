@@ -14,8 +14,8 @@ returns-in-Post g c =
       sound = e.sound;
       follows =
           λ b a.
-          subst (λ (v : Visit). (c.done-or.result ≡ answer_of k v b) × (g.L.Account.meaning c.post.new.self ≡ meant (after k v b))) (sym c.in-Post.is)
-          (asked k b p (k.worth p) _ _ _ _ c.done-or.ensures e.answer e.after a);
+          subst (λ (v : Visit). (c.done_or.result ≡ answer_of k v b) × (g.L.Account.meaning c.post.new.self ≡ meant (after k v b))) (sym c.in-Post.is)
+          (asked k b p (k.worth p) _ _ _ _ c.done_or.ensures e.answer e.after a);
     }
 
 pub returns-in-Withdraw : goal.returns-in-Withdraw
@@ -27,6 +27,6 @@ returns-in-Withdraw g c =
       sound = e.sound;
       follows =
           λ b a.
-          subst (λ (v : Visit). (c.done-or-in-Withdraw.result ≡ answer_of k v b) × (g.L.Account.meaning c.withdraw.new.self ≡ meant (after k v b))) (sym c.in-Withdraw.is)
-          (asked k b p (neg_ℤ (k.worth p)) _ _ _ _ c.done-or-in-Withdraw.ensures e.answer e.after a);
+          subst (λ (v : Visit). (c.done_or-in-Withdraw.result ≡ answer_of k v b) × (g.L.Account.meaning c.withdraw.new.self ≡ meant (after k v b))) (sym c.in-Withdraw.is)
+          (asked k b p (neg_ℤ (k.worth p)) _ _ _ _ c.done_or-in-Withdraw.ensures e.answer e.after a);
     }

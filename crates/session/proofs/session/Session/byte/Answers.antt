@@ -5,7 +5,7 @@ use Rattle.session.proofs.session.Session.byte.Goals as goal
 
 pub returns-then-b-eq10 : goal.returns-then-b-eq10
 returns-then-b-eq10 c =
-    let e = c.end-line.ensures in
+    let e = c.end_line.ensures in
     record {
       hears = λ b line s. hears_end b line (vec_items c.args.out.now) c.args.self.now _ _ c.args.b c.if-b-eq10.true s (e.heard b line s);
       line_len = omega (arith, e.cleared);
@@ -16,7 +16,7 @@ returns-then-b-eq10 c =
 
 pub returns-else-b-eq10 : goal.returns-else-b-eq10
 returns-else-b-eq10 c =
-    let e = c.push-reserved.ensures in
+    let e = c.push_reserved.ensures in
     let x = c.args.b in
     record {
       hears =

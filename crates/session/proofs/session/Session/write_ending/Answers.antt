@@ -7,8 +7,8 @@ pub returns : goal.returns
 returns c =
     λ b line s.
     let before = vec_items c.args.out.now in
-    c.write-end.ensures.items
+    c.write_end.ensures.items
     ∙ ap₂ (λ (x : List ℕ) (n : ℕ). x ++ end_text n 0)
-    (c.write-unfinished.ensures.items ∙ ap (λ (l : List ℕ). before ++ unfinished l) (c.as-slice.ensures.value ∙ s.so_far))
+    (c.write_unfinished.ensures.items ∙ ap (λ (l : List ℕ). before ++ unfinished l) (c.as_slice.ensures.value ∙ s.so_far))
     (c.entries.ensures b s.books)
     ∙ append_assoc before (unfinished line) (end_text (entries b) 0)
