@@ -45,7 +45,7 @@ invariant_of-add_scaled g c =
     let seen = subst (λ ys. Many k ys c.gauge_of-gauge.result) (take_rest xs 2) c.gauge_of-gauge.ensures in
     let few : c.gauge_of-gauge.result.count ≤ 4096 = omega (arith, seen.counted, in_use_length k (drop 2 xs), length-drop 2 xs, c.requires.1.1) in
     let small = power_small k g.met.K.Kind.lawful (drop 2 xs) _ _ _ (numbers_drop k 2 xs c.requires.0) few c.ceiling.ensures seen.peak in
-    (omega (arith, small), tt)
+    record { low = omega (arith, small) }
 
 pub returns : goal.returns
 returns g c =
