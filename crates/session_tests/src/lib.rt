@@ -122,7 +122,8 @@ mod tests {
         for cut in 0..input.len() {
             let out = answered(rt.alloc(), &input[0..cut], &input[cut..])?;
             assert!(rt;
-                out.as_slice() == b"(ok)\n(ok)\n(ok)\n(number 0000C1C0)\n(refused 14)\n(end 2 0)\n"
+                out.as_slice()
+                    == b"(ok)\n(ok)\n(ok)\n(number 0000C1C0)\n(refused 14)\n(end 2 0)\n".as_slice()
             );
         }
         Ok(())
