@@ -2,7 +2,7 @@
 ghost use Rattle.std.specs.Prelude.{◌≡◌, OnErr};
 ghost use Rattle.accounts.specs.Meaning.{Meaning, entry_answer, after_post, after_withdraw, read_answer, Leaves};
 ghost use Rattle.accounts.specs.Exact.{exact_meaning, Blank, Entered};
-ghost use Rattle.std.proofs.Common.{rules, arith};
+ghost use Rattle.std.proofs.Common.{rules};
 
 use crate::account::Account;
 use crate::register_account::RegisterAccount;
@@ -34,7 +34,7 @@ impl<K: Kind> Account<K> for RegisterAccount {
 
     ghost reads = { λ a b. b ≡ a };
 
-    ghost limited = { first_of (Prim.search rules, Prim.grind (arith, Self.row.coded.inj)) };
+    ghost limited = { Prim.search rules };
 
     fn open(_setup: ()) -> RegisterAccount {
         RegisterAccount::balanced(0)

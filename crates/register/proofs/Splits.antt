@@ -1,5 +1,5 @@
 -- A number in limbs, split at a limb and at a bit.
-use Rattle.std.proofs.Common.{◌≡◌, ℕ, zero, suc, ◌+◌, ◌-◌, ◌*◌, ◌/◌, ◌%◌, ◌^◌, ◌<◌, ◌≤◌, Bool, true, false, cond, ltb, List, [], ◌∷◌, length, get_or, take, drop, pos, negsuc, neg_ℤ, nat_abs, sym, refl, ap, ◌∙◌, subst, ⊎_elim, zero-le, add-zero, mul-le-mul_right, mod-eq_of_lt, mul_assoc, suc-mul, mul_comm, add-one, arith, pow_pos, pow_mono, pow-add, shr-shr, ltb-false, ltb-true, le-ltb, lt-ltb}
+use Rattle.std.proofs.Common.{◌≡◌, ℕ, zero, suc, ◌+◌, ◌-◌, ◌*◌, ◌/◌, ◌%◌, ◌^◌, ◌<◌, ◌≤◌, Bool, true, false, cond, ltb, List, [], ◌∷◌, get_or, take, drop, pos, negsuc, neg_ℤ, nat_abs, sym, refl, ap, ◌∙◌, subst, ⊎_elim, zero-le, add-zero, mul-le-mul_right, mod-eq_of_lt, mul_assoc, suc-mul, mul_comm, add-one, arith, pow_pos, pow_mono, pow-add, shr-shr, ltb-false, ltb-true, le-ltb, lt-ltb}
 use native.Mathlib.Nat.{zero-mod, mul-add-mod_self_right}
 use lib.Arith.{digits_div, digits_mod, digits_lt}
 use lib.Count.{count_leading_zeros}

@@ -3,7 +3,7 @@ use Rattle.register.specs.Value.{value}
 use Rattle.binary.proofs.Nearby.{code_small}
 use Rattle.kinds.specs.Range.{in_range}
 use Rattle.kinds.proofs.Ranges as range
-use Rattle.kinds.proofs.binary.read.Goals as goal
+use Rattle.kinds.proofs.binary_kinds.read.Goals as goal
 
 pub signed-requires : goal.signed-requires
 signed-requires g c =

@@ -6,7 +6,7 @@ use Rattle.register.specs.Value.{bits}
 use Rattle.binary.specs.Layout.{Layout}
 use Rattle.binary.proofs.Nearby.{scale_fits}
 use Rattle.kinds.proofs.Ranges as range
-use Rattle.kinds.proofs.binary.rounded.Goals as goal
+use Rattle.kinds.proofs.binary_kinds.rounded.Goals as goal
 
 pub returns-then-size-digits : goal.returns-then-size-digits
 returns-then-size-digits g c =
