@@ -8,8 +8,8 @@ use Rattle.kinds.specs.declared.kind.Kind.{Ghosts}
 use Rattle.accounts.specs.Meaning.{Meaning, with_entry, entry_answer}
 use Rattle.accounts.specs.Entries.{sum_of, meant, entered, AnyOrder}
 
-pub any_order : AnyOrder
-any_order ws vs p = reordered +ℤ_assoc +ℤ_comm +ℤ_idr p
+pub any_order_lem : AnyOrder
+any_order_lem ws vs p = reordered +ℤ_assoc +ℤ_comm +ℤ_idr p
 
 abbrev mean : ℤ → ℕ → ℕ → Meaning
 mean t n l = record { total = t; entries = n; limit = l }

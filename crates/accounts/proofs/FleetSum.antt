@@ -6,7 +6,7 @@ use Rattle.register.specs.Sum.{zero_register, plus}
 use Rattle.register.specs.Value.{value}
 use Rattle.register.specs.Wrap.{half}
 use Rattle.register.specs.declared.Register.{Register}
-use Rattle.register.specs.Laws.{value_of, folded_value}
+use Rattle.register.specs.Laws.{value_register_of, folded_value}
 use Rattle.register.specs.Whole.{half_pos, sum_size}
 use Rattle.register.specs.Wrapping.{wrap_fits}
 use Rattle.accounts.specs.Reach.{fleet_reach}
@@ -57,4 +57,4 @@ pub added : (rs : List Register) → length rs ≤ 1024 → AllInReach rs → va
 added rs few all =
     let most = mul-le-mul_right fleet_reach few in
     let size = sum_within (pos 0) rs all in
-    folded_value zero_register (pos 0) rs (value_of (pos 0)) ∙ wrap_fits half half_pos (fleet_sum rs) (omega (arith, all_within))
+    folded_value zero_register (pos 0) rs (value_register_of (pos 0)) ∙ wrap_fits half half_pos (fleet_sum rs) (omega (arith, all_within))

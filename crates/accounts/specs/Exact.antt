@@ -2,7 +2,9 @@
 use Rattle.std.specs.Prelude.{◌≡◌, ◌+◌, ℤ, ◌+ℤ◌}
 use Rattle.register.specs.Sum.{register_of, zero_register}
 use Rattle.register.specs.Value.{value}
+use Rattle.kinds.specs.declared.kind.Kind as kind
 use Rattle.accounts.specs.Meaning.{Meaning}
+use Rattle.accounts.specs.declared.account.Account.{Ghosts}
 use Rattle.accounts.specs.declared.register_account.RegisterAccount.{RegisterAccount}
 
 abbrev pub exact_meaning : RegisterAccount → Meaning
@@ -17,3 +19,14 @@ pub record Blank (a : RegisterAccount) : Type 0 where
 pub record Entered (w : ℤ) (before after : RegisterAccount) : Type 0 where
   pub sum : after.sum ≡ register_of (value before.sum +ℤ w)
   pub count : after.count ≡ before.count + 1
+
+-- the register account as an account of a kind; what the trait calls sound asks nothing more than its type does
+abbrev pub exact : {K : Type 0} → kind.Ghosts K → Ghosts RegisterAccount K (Unit {0})
+exact k = record {
+  sound = λ _. Unit {0};
+  meaning = exact_meaning;
+  agreed = λ _. 4294967295;
+  opens = λ _ a. Blank a;
+  enters = λ a p b. Entered (k.worth p) a b;
+  reads = λ a b. b ≡ a;
+}

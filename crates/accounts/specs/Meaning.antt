@@ -18,10 +18,11 @@ abbrev pub with_entry : ℤ → Meaning → Meaning
 with_entry v m = record { total = m.total +ℤ v; entries = m.entries + 1; limit = m.limit }
 
 module _ {K : Type 0} (k : Ghosts K) where
-  -- an entry is asked: is it a number, are the entries below the limit
+  -- the two questions of an entry: is it a number, are so many entries below so large a limit
   abbrev pub questions : ℕ → ℕ → ℕ → Result (Unit {0}) Refusal
   questions p entries limit = cond (k.number p) (cond (nat_lt entries limit) (Ok tt) (Err Full)) (Err NotANumber)
 
+  -- an entry is asked: is it a number, are the entries below the limit
   abbrev pub entry_answer : ℕ → Meaning → Result (Unit {0}) Refusal
   entry_answer p m = cond (k.number p) (cond (nat_lt m.entries m.limit) (Ok tt) (Err Full)) (Err NotANumber)
 

@@ -12,7 +12,7 @@ use Rattle.settle.proofs.Tested.{tells}
 use Rattle.accounts.specs.Entries.{sum_of}
 use Rattle.accounts.specs.Meaning.{Meaning}
 use Rattle.accounts.specs.declared.account.Account.{Ghosts}
-use Rattle.accounts.proofs.Entries.{any_order}
+use Rattle.accounts.proofs.Entries.{any_order_lem}
 use Rattle.books.specs.Both.{at}
 use Rattle.books.specs.Meant.{both_of}
 use Rattle.books.specs.Agree.{Agrees}
@@ -34,9 +34,9 @@ answers_length k [] b = refl
 answers_length k (v ∷ vs) b = let e = answers_length k vs (after k v b) in omega arith
 
 -- a read is answered by what its list reads
-read_answer : (r : Result ℕ Refusal) → answer_by (readable r) (number_or r) ≡ number_or r
-read_answer (Ok p) = refl
-read_answer (Err why) = refl
+answer_by_readable : (r : Result ℕ Refusal) → answer_by (readable r) (number_or r) ≡ number_or r
+answer_by_readable (Ok p) = refl
+answer_by_readable (Err why) = refl
 
 every_read_lem : {K : Type 0} (k : kind.Ghosts K) (start : Logbook) (vs : List Visit) (answers : List Answer) → answers ≡ answers_of k vs start
     → (before after : List Visit) (s : Side) → vs ≡ before ++ (Read s ∷ after) → ReadGave k (length before) answers (sum_of (at s (after_all k before start).lists))
@@ -47,7 +47,7 @@ every_read_lem k start vs answers e before later s f =
       later = answers_of k later (after k (Read s) b);
       split =
           e ∙ ap (λ (us : List Visit). answers_of k us start) f ∙ answers_append k before (Read s ∷ later) start
-          ∙ ap (λ (a : Answer). answers_of k before start ++ (a ∷ answers_of k later (after k (Read s) b))) (read_answer (reading k s b));
+          ∙ ap (λ (a : Answer). answers_of k before start ++ (a ∷ answers_of k later (after k (Read s) b))) (answer_by_readable (reading k s b));
       there = answers_length k before start;
     }
 
@@ -78,7 +78,7 @@ module _ {K : Type 0} (k : kind.Ghosts K) (l : Lawful k.number k.worth k.opposit
           conserved = (λ i. total Left i +ℤ total Right i +ℤ load i) ∙ balance;
           every_read = every_read_lem k (blank m n) vs answers e;
           read_alike = λ w z h. ap (λ (v : ℤ). answered (k.outcome v)) h;
-          any_order = λ _ _ ws us h. ap (λ (v : ℤ). answered (k.outcome v)) (any_order ws us h);
+          any_order = λ _ _ ws us h. ap (λ (v : ℤ). answered (k.outcome v)) (any_order_lem ws us h);
           passes = exactly;
           test = (tells k l).names;
           settle = λ plan budget slots column slots' column' o h. h.1.outcome;

@@ -16,8 +16,8 @@ no_one dot t e = let z : ◌≡◌ {A = ℕ} 46 40 = cc in omega arith
 no_one (pair dot b) t e = let f : text b ++ (41 ∷ []) ≡ 41 ∷ t = cc in no_close b (41 ∷ []) t f
 no_one (pair (pair a d) b) t e = let z : ◌≡◌ {A = ℕ} 40 46 = cc in omega arith
 
-pub no_plan : NoPlan 3 (codes "(.)(..)") (NotAPlan 2)
-no_plan = (
+pub no_plan_lem : NoPlan 3 (codes "(.)(..)") (NotAPlan 2)
+no_plan_lem = (
   refl,
   λ i. no_one i.plan _ i.written,
   record {

@@ -12,7 +12,7 @@ use Rattle.settle.specs.Test.{Ceiling, Reach, some, Rejects}
 use Rattle.settle.proofs.Powers.{under_weaker}
 use Rattle.settle.proofs.Settling as settling
 use Rattle.cases.specs.Examples.{binary64, slots, settled, OfSettling}
-use Rattle.cases.proofs.Plans.{no_plan}
+use Rattle.cases.proofs.Plans.{no_plan_lem}
 
 ceiling_of : (z c : ℕ) → z ≤ 2 ^ suc c → 2 ^ c < z → Ceiling z (suc c)
 ceiling_of z c h k =
@@ -112,5 +112,5 @@ of_settling = record {
     },
     refl,
   );
-  no_plan = no_plan;
+  no_plan = no_plan_lem;
 }

@@ -18,14 +18,14 @@ use Rattle.binary.proofs.Nearby.{bound_two, bound_twice, exact, rounded, few, sc
 use Rattle.binary.proofs.Joins.{sum_is}
 use Rattle.kinds.proofs.Edges.{closest_of, out_long, in_short, in_edge, out_edge}
 use Rattle.kinds.specs.Answer.{answered}
-use Rattle.kinds.specs.Range.{in_range}
+use Rattle.kinds.specs.Range.{code_in_range}
 use Rattle.refusals.specs.declared.Refusal.TheVariants.{AboveRange, BelowRange}
 
 module _ (f : Format) (m : ℕ) where
-  pub inside : (c : ℕ) → m < edge f → code f (nearest_ℕ f m) ≡ c → Some c ≡ in_range f m
+  pub inside : (c : ℕ) → m < edge f → code f (nearest_ℕ f m) ≡ c → Some c ≡ code_in_range f m
   inside c h e = ap Some (sym e) ∙ sym (ap (λ (t : Bool). cond t (Some (code f (nearest_ℕ f m))) None) (lt-ltb m (edge f) h))
 
-  pub outside : edge f ≤ m → None ≡ in_range f m
+  pub outside : edge f ≤ m → None ≡ code_in_range f m
   outside h = sym (ap (λ (t : Bool). cond t (Some (code f (nearest_ℕ f m))) None) (le-ltb m (edge f) h))
 
 reaches : (m s : ℕ) → LeastBits m s → 0 < s → 2 ^ (s - 1) ≤ m
@@ -40,7 +40,7 @@ module _ (f : Format) (k : ℕ) (lay : Layout f k) (m s : ℕ) (size : LeastBits
   bound_small = let h : suc k ≤ 53 = omega (arith, lay.narrow) in le_trans (le_of_eq (bound_two f k lay)) (pow_mono h)
 
   -- ---- few digits
-  pub whole : s ≤ suc k → Some ((m / 2 ^ 0) % 2 ^ 64) ≡ in_range f m
+  pub whole : s ≤ suc k → Some ((m / 2 ^ 0) % 2 ^ 64) ≡ code_in_range f m
   whole l =
       let b : m < bound f = lt_of_lt_of_le size.enough (le_trans (pow_mono l) (le_of_eq (sym (bound_two f k lay)))) in
       let o : m * 2 ^ 0 ≡ m = mul-one m in
@@ -60,7 +60,7 @@ module _ (f : Format) (k : ℕ) (lay : Layout f k) (m s : ℕ) (size : LeastBits
           lt_of_lt_of_le size.enough (le_of_eq (sym (ap (λ (x : ℕ). x * 2 ^ d) (bound_two f k lay) ∙ sym (pow-add 2 (suc k) d) ∙ ap (λ (x : ℕ). 2 ^ x) b))),
         )
 
-    pub long : f.scales < s - suc k → None ≡ in_range f m
+    pub long : f.scales < s - suc k → None ≡ code_in_range f m
     long l = outside f m (out_long f k lay m (s - suc k) l high.0)
 
     pub part : m / 2 ^ (s - suc k) < 2 ^ 63
@@ -75,7 +75,7 @@ module _ (f : Format) (k : ℕ) (lay : Layout f k) (m s : ℕ) (size : LeastBits
           let a : closest m (2 ^ (s - suc k)) ≤ bound f = few f k lay m (s - suc k) high.1 in
           omega (arith, near, scale_fits f k lay (s - suc k) fits, bound_twice f k lay, lead_pos f)
 
-      middle : (s - suc k) * f.lead + n ≤ top_code f → Some ((s - suc k) * f.lead + n) ≡ in_range f m
+      middle : (s - suc k) * f.lead + n ≤ top_code f → Some ((s - suc k) * f.lead + n) ≡ code_in_range f m
       middle h =
           let d = s - suc k in
           let e : d * f.lead + n ≡ d * f.lead + closest m (2 ^ d) = ap (λ (x : ℕ). d * f.lead + x) near in
@@ -84,16 +84,16 @@ module _ (f : Format) (k : ℕ) (lay : Layout f k) (m s : ℕ) (size : LeastBits
           inside f m (d * f.lead + n) (in_edge f k lay m d fits high.1 (omega arith))
           (ap (λ (x : ℕ). code f (nearest_ℕ f x)) (sym (mul-one m)) ∙ y.0 ∙ ap (λ (x : ℕ). x * f.lead + closest m (2 ^ d)) z ∙ sym e)
 
-      over : top_code f < (s - suc k) * f.lead + n → None ≡ in_range f m
+      over : top_code f < (s - suc k) * f.lead + n → None ≡ code_in_range f m
       over h =
           let d = s - suc k in
           let e : d * f.lead + n ≡ d * f.lead + closest m (2 ^ d) = ap (λ (x : ℕ). d * f.lead + x) near in
           outside f m (out_edge f k lay m d fits high.1 (omega arith))
 
-      pub last : (c : ℕ) → c ≡ (s - suc k) * f.lead + n → cond (leb c (top_code f)) (Some c) None ≡ in_range f m
+      pub last : (c : ℕ) → c ≡ (s - suc k) * f.lead + n → cond (leb c (top_code f)) (Some c) None ≡ code_in_range f m
       last c e = go (leb c (top_code f)) refl
         where
-          go : (t : Bool) → leb c (top_code f) ≡ t → cond t (Some c) None ≡ in_range f m
+          go : (t : Bool) → leb c (top_code f) ≡ t → cond t (Some c) None ≡ code_in_range f m
           go true t = ap Some e ∙ middle (omega (arith, leb-true c (top_code f) t))
           go false t = over (omega (arith, leb-false c (top_code f) t))
 
@@ -110,10 +110,10 @@ module _ (f : Format) (v : ℤ) where
   cut c true e h = (omega (arith, ltb-true (nat_abs v) (edge f) e), cc)
   cut c false e h = absurd (let z : ◌≡◌ {A = ℕ} 0 1 = cc in omega arith)
 
-  pub in_parts : (c : ℕ) → Some c ≡ in_range f (nat_abs v) → (nat_abs v < edge f) × (c ≡ code f (nearest_ℕ f (nat_abs v)))
+  pub in_parts : (c : ℕ) → Some c ≡ code_in_range f (nat_abs v) → (nat_abs v < edge f) × (c ≡ code f (nearest_ℕ f (nat_abs v)))
   in_parts c h = cut c (ltb (nat_abs v) (edge f)) refl h
 
-  pub read : (k : ℕ) → Layout f k → (c s : ℕ) (negative : Bool) → Some c ≡ in_range f (nat_abs v) → negative ≡ lt_z v (pos 0) → s ≡ signed_code f negative c
+  pub read : (k : ℕ) → Layout f k → (c s : ℕ) (negative : Bool) → Some c ≡ code_in_range f (nat_abs v) → negative ≡ lt_z v (pos 0) → s ≡ signed_code f negative c
       → Ok s ≡ answered (outcome (binary f) v)
   read k lay c s negative h n e =
       let x = in_parts c h in
@@ -124,12 +124,12 @@ module _ (f : Format) (v : ℤ) where
   out true e h = absurd (let z : ◌≡◌ {A = ℕ} 0 1 = cc in omega arith)
   out false e h = ltb-false (nat_abs v) (edge f) e
 
-  pub read_above : None ≡ in_range f (nat_abs v) → lt_z v (pos 0) ≡ false → Err AboveRange ≡ answered (outcome (binary f) v)
+  pub read_above : None ≡ code_in_range f (nat_abs v) → lt_z v (pos 0) ≡ false → Err AboveRange ≡ answered (outcome (binary f) v)
   read_above h s =
       let l = out (ltb (nat_abs v) (edge f)) refl h in
       sym (ap (λ (o : Outcome ℤ). answered (told_by (pattern f) o)) (outcome_over f v (omega (arith, ints))))
 
-  pub read_below : None ≡ in_range f (nat_abs v) → lt_z v (pos 0) ≡ true → Err BelowRange ≡ answered (outcome (binary f) v)
+  pub read_below : None ≡ code_in_range f (nat_abs v) → lt_z v (pos 0) ≡ true → Err BelowRange ≡ answered (outcome (binary f) v)
   read_below h s =
       let l = out (ltb (nat_abs v) (edge f)) refl h in
       sym (ap (λ (o : Outcome ℤ). answered (told_by (pattern f) o)) (outcome_under f v (omega (arith, ints))))

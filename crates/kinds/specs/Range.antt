@@ -4,5 +4,5 @@ use Rattle.numbers.specs.Format.{Format}
 use Rattle.numbers.specs.Nearest.{edge, nearest_ℕ}
 use Rattle.numbers.specs.Binary.{code}
 
-abbrev pub in_range : Format → ℕ → Option ℕ
-in_range f m = cond (nat_lt m (edge f)) (Some (code f (nearest_ℕ f m))) None
+abbrev pub code_in_range : Format → ℕ → Option ℕ
+code_in_range f m = cond (nat_lt m (edge f)) (Some (code f (nearest_ℕ f m))) None

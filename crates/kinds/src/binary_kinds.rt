@@ -5,7 +5,7 @@ ghost use Rattle.numbers.specs.Coding.{opposite, adder, outcome};
 ghost use Rattle.register.specs.Value.{value, bits};
 ghost use Rattle.binary.specs.Layout.{top_code};
 ghost use Rattle.kinds.specs.Answer.{answered};
-ghost use Rattle.kinds.specs.Range.{in_range};
+ghost use Rattle.kinds.specs.Range.{code_in_range};
 ghost use Rattle.numbers.proofs.Binary.{codes};
 ghost use Rattle.numbers.proofs.Laws;
 
@@ -28,7 +28,7 @@ fn in_range<B: Binary>(code: u64) -> Option<u64>
 
 // The pattern of the number nearest to a magnitude, if that is in range.
 fn rounded<B: Binary>(m: &Register) -> Option<u64>
-    ensures { result ≡ in_range B.Binary.format (bits m.now) }
+    ensures { result ≡ code_in_range B.Binary.format (bits m.now) }
 {
     let digits = B::fraction() + 1;
     let size = m.bit_length();

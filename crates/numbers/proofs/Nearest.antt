@@ -36,7 +36,7 @@ module _ (f : Format) where
             ]
       ]
 
-  -- so `nearestℕ` is that multiple, or the top for an m that is no less
+  -- so `nearest_ℕ` is that multiple, or the top for an m that is no less
   pub nearest_ℕ_is : (m : ℕ)
       → (let u = unit f (scale_of f m) in ((nearest_ℕ f m ≡ closest m u * u) × Held f (closest m u * u)) ⊎ ((nearest_ℕ f m ≡ top f) × (top f ≤ m)))
   unfolding nearest_ℕ

@@ -45,19 +45,19 @@ same_value a b e =
     let number : bits a ≡ bits b = sym (residue_signed half half_pos (bits a) (whole_lt a)) ∙ ap (residue (2 * half)) e ∙ residue_signed half half_pos (bits b) (whole_lt b) in
     same a b (sym (limbs_are a) ∙ ap (limbs_of 34) number ∙ limbs_are b)
 
-pub value_of : (z : ℤ) → value (register_of z) ≡ wrap z
+pub value_register_of : (z : ℤ) → value (register_of z) ≡ wrap z
 unfolding register_of wrap_at
-value_of z = ap (λ n. signed_at half n) (nat_of_limbs_of 34 (residue (2 * half) z) (rw whole_is (residue_lt half half_pos z)))
+value_register_of z = ap (λ n. signed_at half n) (nat_of_limbs_of 34 (residue (2 * half) z) (rw whole_is (residue_lt half half_pos z)))
 
 pub holds : (r : Register) (z : ℤ) → value r ≡ wrap z → r ≡ register_of z
-holds r z e = same_value _ _ (e ∙ sym (value_of z))
+holds r z e = same_value _ _ (e ∙ sym (value_register_of z))
 
 pub plus_assoc : (a b c : Register) → plus (plus a b) c ≡ plus a (plus b c)
 plus_assoc a b c =
     same_value _ _
-    (value_of _ ∙ ap (λ z. wrap (z +ℤ value c)) (value_of (value a +ℤ value b)) ∙ wrap_left half half_pos (value a +ℤ value b) (value c)
+    (value_register_of _ ∙ ap (λ z. wrap (z +ℤ value c)) (value_register_of (value a +ℤ value b)) ∙ wrap_left half half_pos (value a +ℤ value b) (value c)
     ∙ ap wrap (+ℤ_assoc (value a) (value b) (value c))
-    ∙ sym (value_of _ ∙ ap (λ z. wrap (value a +ℤ z)) (value_of (value b +ℤ value c)) ∙ wrap_right half half_pos (value a) (value b +ℤ value c)))
+    ∙ sym (value_register_of _ ∙ ap (λ z. wrap (value a +ℤ z)) (value_register_of (value b +ℤ value c)) ∙ wrap_right half half_pos (value a) (value b +ℤ value c)))
 
 pub plus_comm : (a b : Register) → plus a b ≡ plus b a
 plus_comm a b = ap register_of (+ℤ_comm (value a) (value b))
@@ -65,7 +65,7 @@ plus_comm a b = ap register_of (+ℤ_comm (value a) (value b))
 pub plus_zero : (a : Register) → plus a zero_register ≡ a
 plus_zero a =
     same_value _ _
-    (value_of _ ∙ ap (λ z. wrap (value a +ℤ z)) (value_of (pos 0)) ∙ wrap_right half half_pos (value a) (pos 0) ∙ ap wrap (+ℤ_idr (value a))
+    (value_register_of _ ∙ ap (λ z. wrap (value a +ℤ z)) (value_register_of (pos 0)) ∙ wrap_right half half_pos (value a) (pos 0) ∙ ap wrap (+ℤ_idr (value a))
     ∙ wrap_signed half half_pos (bits a) (whole_lt a))
 
 pub wrap_zero : wrap (pos 0) ≡ pos 0
@@ -75,4 +75,4 @@ wrap_zero = refl
 -- a row of sums holds the sum of the values, wrapped
 pub folded_value : (a : Register) (z : ℤ) (rs : List Register) → value a ≡ wrap z → value (fold plus a rs) ≡ wrap (fold (λ sum r. sum +ℤ value r) z rs)
 folded_value a z [] e = e
-folded_value a z (r ∷ rs) e = folded_value (plus a r) (z +ℤ value r) rs (value_of _ ∙ ap (λ y. wrap (y +ℤ value r)) e ∙ wrap_left half half_pos z (value r))
+folded_value a z (r ∷ rs) e = folded_value (plus a r) (z +ℤ value r) rs (value_register_of _ ∙ ap (λ y. wrap (y +ℤ value r)) e ∙ wrap_left half half_pos z (value r))

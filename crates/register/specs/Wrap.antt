@@ -1,5 +1,5 @@
 -- Two's complement.
---     residue n z      the number below n that differs from z by a multiple of n
+--     residue n z       the number below n that differs from z by a multiple of n
 --     signed_at h n     the number that n below 2 * h stands for: n itself below h, else n - 2 * h
 --     wrap_at h z       the number from -h on and below h that differs from z by a multiple of 2 * h
 use Rattle.std.specs.Prelude.{ℕ, suc, ◌-◌, ◌*◌, ◌%◌, ◌^◌, Bool, cond, List, ℤ, pos, negsuc, neg_ℤ, nat_lt}

@@ -4,7 +4,7 @@ use Rattle.kinds.specs.Answer.{answered}
 use Rattle.accounts.specs.Meaning.{Meaning}
 use Rattle.accounts.specs.Entries.{sum_of, meant, entered_by, accepted}
 use Rattle.accounts.specs.declared.readings.Entry.{Entry}
-use Rattle.accounts.proofs.Entries.{any_order}
+use Rattle.accounts.proofs.Entries.{any_order_lem}
 use Rattle.accounts.proofs.readings.reading.Goals as goal
 
 pub loop-entry-preserved : goal.loop-entry-preserved
@@ -27,5 +27,5 @@ returns g c =
           c.read.ensures.answer
           ∙ ap (λ (z : ℤ). answered (k.outcome z))
           (total ∙ ap (λ (es : List Entry). sum_of (accepted k most es)) all ∙ ap (λ (n : ℕ). sum_of (accepted k n c.args.entries.now)) limit);
-      order = any_order;
+      order = any_order_lem;
     }

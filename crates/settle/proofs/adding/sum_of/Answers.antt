@@ -3,7 +3,7 @@ use lib.IntN.{+ℤ_idr}
 use Rattle.std.proofs.lemmas.List.{take_more}
 use Rattle.register.specs.Value.{value}
 use Rattle.register.specs.Wrap.{half, wrap}
-use Rattle.register.specs.Laws.{value_of}
+use Rattle.register.specs.Laws.{value_register_of}
 use Rattle.register.specs.Whole.{half_pos}
 use Rattle.register.specs.Wrapping.{wrap_left}
 use Rattle.slots.specs.Pass.{exact_sum}
@@ -15,7 +15,7 @@ pub worth-requires : goal.worth-requires
 worth-requires g c = numbers_at g.K.Kind _ _ c.loop-p-test.true c.requires.0
 
 pub loop-p-init : goal.loop-p-init
-loop-p-init g c = ap value c.zero-sum.ensures ∙ value_of (pos 0)
+loop-p-init g c = ap value c.zero-sum.ensures ∙ value_register_of (pos 0)
 
 pub loop-p-preserved : goal.loop-p-preserved
 loop-p-preserved g c =
@@ -27,7 +27,7 @@ loop-p-preserved g c =
     let more : exact_sum k (take (i + 1) xs) ≡ sum +ℤ k.worth x =
     ap (exact_sum k) (take_more xs i 0 c.loop-p-test.true) ∙ exact_sum_append k (take i xs) (x ∷ []) ∙ ap (λ z. sum +ℤ z) (+ℤ_idr (k.worth x))
     in
-    ap value c.add_scaled.ensures ∙ value_of _ ∙ ap (λ z. wrap (value c.loop-p.sum +ℤ z)) c.worth.ensures ∙ ap (λ z. wrap (z +ℤ k.worth x)) c.loop-p.invariant
+    ap value c.add_scaled.ensures ∙ value_register_of _ ∙ ap (λ z. wrap (value c.loop-p.sum +ℤ z)) c.worth.ensures ∙ ap (λ z. wrap (z +ℤ k.worth x)) c.loop-p.invariant
     ∙ wrap_left half half_pos sum (k.worth x) ∙ ap wrap (sym more)
 
 pub returns : goal.returns
