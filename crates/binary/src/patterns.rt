@@ -1,7 +1,7 @@
 //! Patterns and what they are worth.
 ghost use Rattle.std.specs.Prelude.{◌≡◌, ℕ, ◌+◌, ◌*◌, ◌/◌, ◌%◌, ◌<◌, not, T, nat_le};
 ghost use Rattle.numbers.specs.Binary.{sign_bit, is_number, field_e, field_f, unsigned, worth, pattern, binary, BinaryPatterns};
-ghost use Rattle.numbers.specs.Coding.{opposite as oppositeOf};
+ghost use Rattle.numbers.specs.Coding.{opposite as opposite_of};
 ghost use Rattle.register.specs.Value.{meant};
 ghost use Rattle.binary.specs.Canonical.{Canonical};
 ghost use Rattle.binary.specs.Layout.{signed_code, top_code};
@@ -99,7 +99,7 @@ fn turned<B: Binary>(p: u64, negative: bool, w: Scaled) -> u64
     requires worth { meant w ≡ worth B.Binary.format p }
     requires canonical { Canonical B.Binary.format w.magnitude w.shift }
     requires sign { negative ≡ not w.negative }
-    ensures { result ≡ oppositeOf (binary B.Binary.format) p }
+    ensures { result ≡ opposite_of (binary B.Binary.format) p }
 {
     written::<B>(Scaled {
         negative,
@@ -111,7 +111,7 @@ fn turned<B: Binary>(p: u64, negative: bool, w: Scaled) -> u64
 /// The pattern of the opposite number.
 pub fn opposite<B: Binary>(p: u64) -> u64
     requires { T (is_number B.Binary.format p) }
-    ensures { result ≡ oppositeOf (binary B.Binary.format) p }
+    ensures { result ≡ opposite_of (binary B.Binary.format) p }
 {
     let w = worth::<B>(p);
     turned::<B>(p, !w.negative, w)
