@@ -10,14 +10,14 @@ use Rattle.forms.specs.declared.words.Word.{Word}
 use Rattle.forms.specs.declared.words.Word.TheVariants.{Post, Withdraw, Read}
 
 -- a kind's name and the bracket behind it
-abbrev pub kind_name : KindName → List ℕ
-kind_name Binary64 = codes "binary64)"
-kind_name Binary32 = codes "binary32)"
-kind_name Count = codes "count)"
+abbrev pub name_text : KindName → List ℕ
+name_text Binary64 = codes "binary64)"
+name_text Binary32 = codes "binary32)"
+name_text Count = codes "count)"
 
 -- the line that names a kind
 abbrev pub kind_text : KindName → List ℕ
-kind_text n = codes "(kind " ++ kind_name n
+kind_text n = codes "(kind " ++ name_text n
 
 -- the bracket, the word and the blank that a visit's line opens with
 abbrev pub word_text : Word → List ℕ

@@ -1,6 +1,6 @@
 //! What a line asks for.
 ghost use Rattle.std.specs.Prelude.{◌≡◌, ◌^◌, ◌<◌, ◌≤◌, ◌++◌, length, MatchOption};
-ghost use Rattle.forms.specs.Text.{kind_name, word_text, side_text, closed_side, hex_text, number_text, amount_text, NoText, NoFront, DigitMeans, NumberMeans, VisitMeans, KindMeans};
+ghost use Rattle.forms.specs.Text.{name_text, word_text, side_text, closed_side, hex_text, number_text, amount_text, NoText, NoFront, DigitMeans, NumberMeans, VisitMeans, KindMeans};
 ghost use Rattle.forms.specs.Read.{read_visit, read_kind, VisitsExact, KindsExact};
 
 use crate::words::{KindName, Side, Visit, Word};
@@ -54,7 +54,7 @@ fn kind_of(line: &[u8]) -> Option<KindName>
 
 // A kind's name and the closing bracket.
 fn kind_name(text: &[u8]) -> Option<KindName>
-    ensures { MatchOption result (NoText kind_name text.now) (λ n. text.now ≡ kind_name n) }
+    ensures { MatchOption result (NoText name_text text.now) (λ n. text.now ≡ name_text n) }
 {
     match text {
         [b'b', b'i', b'n', b'a', b'r', b'y', b'6', b'4', b')'] => Some(KindName::Binary64),
