@@ -24,7 +24,7 @@ module _ {K : Type 0} (k : Ghosts K) where
 
   -- an entry is asked: is it a number, are the entries below the limit
   abbrev pub entry_answer : ℕ → Meaning → Result (Unit {0}) Refusal
-  entry_answer p m = cond (k.number p) (cond (nat_lt m.entries m.limit) (Ok tt) (Err Full)) (Err NotANumber)
+  entry_answer p m = questions p m.entries m.limit
 
   -- a granted call has one entry more, a refused one changes nothing
   abbrev pub after_post : ℕ → Meaning → Meaning

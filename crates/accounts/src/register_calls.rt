@@ -1,10 +1,11 @@
 //! The register account's calls.
 ghost use Rattle.std.specs.Prelude.{◌≡◌, OnErr};
-ghost use Rattle.accounts.specs.Meaning.{Meaning, entry_answer, after_post, after_withdraw, read_answer, Leaves};
-ghost use Rattle.accounts.specs.Exact.{exact_meaning, Blank, Entered};
+ghost use Rattle.accounts.specs.Meaning.{entry_answer, after_post, after_withdraw, read_answer, Leaves};
+ghost use Rattle.accounts.specs.Exact.{exact, exact_meaning, Entered};
 ghost use Rattle.std.proofs.Common.{rules};
 
 use crate::account::Account;
+use crate::asked::asked;
 use crate::register_account::RegisterAccount;
 use kinds::kind::Kind;
 use refusals::Refusal;
@@ -22,17 +23,17 @@ impl RegisterAccount {
 impl<K: Kind> Account<K> for RegisterAccount {
     type Setup = ();
 
-    ghost sound = { λ _. Unit {0} };
+    ghost sound = { (exact K.Kind).sound };
 
-    ghost meaning = { exact_meaning };
+    ghost meaning = { (exact K.Kind).meaning };
 
-    ghost agreed = { λ _. 4294967295 };
+    ghost agreed = { (exact K.Kind).agreed };
 
-    ghost opens = { λ _ a. Blank a };
+    ghost opens = { (exact K.Kind).opens };
 
-    ghost enters = { λ a p b. Entered (K.Kind.worth p) a b };
+    ghost enters = { (exact K.Kind).enters };
 
-    ghost reads = { λ a b. b ≡ a };
+    ghost reads = { (exact K.Kind).reads };
 
     ghost limited = { Prim.search rules };
 
@@ -47,12 +48,7 @@ impl<K: Kind> Account<K> for RegisterAccount {
         ensures leaves { Leaves (Entered (K.Kind.worth p) self.old) self.old self.new result }
         ensures kept { OnErr result (self.new ≡ self.old) }
     {
-        if !K::is_number(p) {
-            return Err(Refusal::NotANumber);
-        }
-        if self.count == u32::MAX {
-            return Err(Refusal::Full);
-        }
+        asked::<K>(p, self.count, u32::MAX)?;
         self.enter(K::worth(p));
         Ok(())
     }
@@ -64,12 +60,7 @@ impl<K: Kind> Account<K> for RegisterAccount {
         ensures leaves { Leaves (Entered (K.Kind.worth (K.Kind.opposite p)) self.old) self.old self.new result }
         ensures kept { OnErr result (self.new ≡ self.old) }
     {
-        if !K::is_number(p) {
-            return Err(Refusal::NotANumber);
-        }
-        if self.count == u32::MAX {
-            return Err(Refusal::Full);
-        }
+        asked::<K>(p, self.count, u32::MAX)?;
         self.enter(K::worth(K::opposite(p)));
         Ok(())
     }

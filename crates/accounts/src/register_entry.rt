@@ -2,7 +2,7 @@
 ghost use Rattle.std.specs.Prelude.{◌≡◌, ◌^◌, ◌<◌, pos, unsigned_abs};
 ghost use Rattle.register.specs.Sum.{zero_register};
 ghost use Rattle.register.specs.Value.{value, meant};
-ghost use Rattle.accounts.specs.Meaning.{Meaning, with_entry};
+ghost use Rattle.accounts.specs.Meaning.{with_entry};
 ghost use Rattle.accounts.specs.Exact.{exact_meaning, Entered};
 
 use crate::register_account::RegisterAccount;

@@ -1,5 +1,5 @@
 //! Patterns and what they are worth.
-ghost use Rattle.std.specs.Prelude.{◌≡◌, ℕ, ◌+◌, ◌*◌, ◌/◌, ◌%◌, ◌<◌, not, T, nat_le};
+ghost use Rattle.std.specs.Prelude.{◌≡◌, ◌+◌, ◌*◌, ◌/◌, ◌%◌, ◌<◌, not, T, nat_le};
 ghost use Rattle.numbers.specs.Binary.{sign_bit, is_number, field_e, field_f, unsigned, worth, pattern, binary, BinaryPatterns};
 ghost use Rattle.numbers.specs.Coding.{opposite as opposite_of};
 ghost use Rattle.register.specs.Value.{meant};

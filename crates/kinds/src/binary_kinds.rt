@@ -1,5 +1,5 @@
 //! The binary kinds: numbers of 64 and of 32 bits, by one piece of code.
-ghost use Rattle.std.specs.Prelude.{◌≡◌, ◌≤◌, pos, if◌then◌else◌, Some, None, int_lt, nat_le};
+ghost use Rattle.std.specs.Prelude.{◌≡◌, pos, if◌then◌else◌, Some, None, int_lt, nat_le};
 ghost use Rattle.numbers.specs.Binary.{binary};
 ghost use Rattle.numbers.specs.Coding.{opposite, adder, outcome};
 ghost use Rattle.register.specs.Value.{value, bits};

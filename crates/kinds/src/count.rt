@@ -1,5 +1,5 @@
 //! The kind count: whole litres in 32 bits.
-ghost use Rattle.std.specs.Prelude.{◌≡◌, ℕ, ◌^◌, ◌<◌, Bool, T, ℤ, pos, int_lt, unsigned_abs};
+ghost use Rattle.std.specs.Prelude.{◌≡◌, ◌^◌, ◌<◌, T, pos, int_lt, unsigned_abs};
 ghost use Rattle.numbers.specs.Coding.{opposite, adder, outcome};
 ghost use Rattle.numbers.specs.Nearest.{nearest};
 ghost use Rattle.register.specs.Value.{value, meant};

@@ -72,6 +72,9 @@ pub wrap_zero : wrap (pos 0) ≡ pos 0
 unfolding wrap_at residue signed_at half
 wrap_zero = refl
 
+pub value_zero : value zero_register ≡ pos 0
+value_zero = value_register_of (pos 0) ∙ wrap_zero
+
 -- a row of sums holds the sum of the values, wrapped
 pub folded_value : (a : Register) (z : ℤ) (rs : List Register) → value a ≡ wrap z → value (fold plus a rs) ≡ wrap (fold (λ sum r. sum +ℤ value r) z rs)
 folded_value a z [] e = e

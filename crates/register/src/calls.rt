@@ -1,5 +1,5 @@
 //! The register's calls.
-ghost use Rattle.std.specs.Prelude.{◌≡◌, ℕ, ◌/◌, ◌%◌, ◌^◌, ◌<◌, ℤ, pos, ◌+ℤ◌, ◌-ℤ◌, int_lt, nat_lt, unsigned_abs};
+ghost use Rattle.std.specs.Prelude.{◌≡◌, ◌/◌, ◌%◌, ◌^◌, ◌<◌, ℤ, pos, ◌+ℤ◌, ◌-ℤ◌, int_lt, nat_lt, unsigned_abs};
 ghost use Rattle.register.specs.Limbs.{LeastBits, Rounded};
 ghost use Rattle.register.specs.Value.{value, bits, meant};
 ghost use Rattle.register.specs.Sum.{register_of};

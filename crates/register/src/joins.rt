@@ -1,5 +1,4 @@
 //! Registers join by addition.
-ghost use Rattle.std.specs.Prelude.{◌≡◌};
 ghost use Rattle.register.specs.Sum.{zero_register, plus};
 ghost use Rattle.register.specs.Laws.{plus_assoc, plus_comm, plus_zero};
 

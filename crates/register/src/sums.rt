@@ -1,5 +1,5 @@
 //! Sums limb by limb, which wrap at the register's width.
-ghost use Rattle.std.specs.Prelude.{◌≡◌, ℕ, ◌+◌, ◌-◌, ◌*◌, ◌/◌, ◌%◌, ◌^◌, ◌<◌, ◌≤◌, length, ℤ, pos, ◌+ℤ◌, ◌-ℤ◌, neg_ℤ};
+ghost use Rattle.std.specs.Prelude.{◌≡◌, ◌+◌, ◌-◌, ◌*◌, ◌/◌, ◌%◌, ◌^◌, ◌<◌, ◌≤◌, ℤ, pos, ◌+ℤ◌, ◌-ℤ◌};
 ghost use Rattle.register.specs.Value.{value};
 ghost use Rattle.register.specs.Sum.{register_of};
 ghost use Rattle.register.specs.Wrap.{wrap, scaled};
