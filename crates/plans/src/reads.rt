@@ -23,10 +23,7 @@ pub fn read_plan(text: &[u8], dots: usize) -> Result<(), Refusal>
     if text.len() != plan_bytes(dots) {
         return Err(Refusal::WrongPlanLength);
     }
-    match whole_plan(text, dots) {
-        Ok(()) => Ok(()),
-        Err(place) => Err(Refusal::NotAPlan(place)),
-    }
+    whole_plan(text, dots).map_err(Refusal::NotAPlan)
 }
 
 // How many bytes each plan with so many dots has: one for each dot, and two brackets for each dot but one.
