@@ -1,6 +1,7 @@
 -- The fold of the gauges of some numbers is their gauge.
-use Rattle.std.proofs.Common.{◌≡◌, ℕ, ◌+◌, ◌^◌, ◌<◌, ◌≤◌, min, max, List, [], ◌∷◌, ◌++◌, length, get_or, take, set, fold, sym, ◌∙◌, subst, subst₂, inl, inr, lt_of_lt_of_le, arith, pow_mono}
-use Rattle.std.proofs.lemmas.List.{take_more, take_more_set}
+use Rattle.std.proofs.Common.{◌≡◌, ℕ, ◌+◌, ◌^◌, ◌<◌, ◌≤◌, min, max, List, [], ◌∷◌, ◌++◌, length, get_or, take, fold, sym, ◌∙◌, subst, inl, inr, lt_of_lt_of_le, arith, pow_mono}
+use Rattle.std.specs.List.{AllZip}
+use Rattle.std.proofs.lemmas.List.{take_more}
 use Rattle.std.proofs.lemmas.Bool.{cases_lt}
 use Rattle.settle.specs.declared.gauge.Gauge.{Gauge}
 use Rattle.settle.specs.Both.{none_seen, both}
@@ -25,10 +26,7 @@ no_count m s n z h e =
 
 -- each gauge is that of its number
 abbrev pub Ones : {K : Type 0} → Ghosts K → List ℕ → List Gauge → Type 0
-Ones k [] [] = Unit {0}
-Ones k [] (g ∷ gs) = ⊥
-Ones k (x ∷ xs) [] = ⊥
-Ones k (x ∷ xs) (g ∷ gs) = One k x g × Ones k xs gs
+Ones k = AllZip (One k)
 
 module _ {K : Type 0} (k : Ghosts K) where
   ones_push : (xs : List ℕ) (gs : List Gauge) (x : ℕ) (g : Gauge) → Ones k xs gs → One k x g → Ones k (xs ++ (x ∷ [])) (gs ++ (g ∷ []))
@@ -37,10 +35,8 @@ module _ {K : Type 0} (k : Ghosts K) where
   ones_push (y ∷ xs) [] x g e o = absurd e
   ones_push (y ∷ xs) (h ∷ gs) x g e o = (e.0, ones_push xs gs x g e.1 o)
 
-  pub ones_more : (xs : List ℕ) (gs : List Gauge) (i : ℕ) (g : Gauge) → i < length xs → i < length gs → Ones k (take i xs) (take i gs) → One k (get_or xs i 0) g
-      → Ones k (take (i + 1) xs) (take (i + 1) (set gs i g))
-  ones_more xs gs i g h r e o =
-      subst₂ (Ones k) (sym (take_more xs i 0 h)) (sym (take_more_set gs i g r)) (ones_push (take i xs) (take i gs) (get_or xs i 0) g e o)
+  pub ones_more : (xs : List ℕ) (gs : List Gauge) (i : ℕ) (g : Gauge) → i < length xs → Ones k (take i xs) gs → One k (get_or xs i 0) g → Ones k (take (i + 1) xs) (gs ++ (g ∷ []))
+  ones_more xs gs i g h e o = subst (λ ys. Ones k ys (gs ++ (g ∷ []))) (sym (take_more xs i 0 h)) (ones_push (take i xs) gs (get_or xs i 0) g e o)
 
   -- after more of them
   count_from : (a : Gauge) (xs : List ℕ) (gs : List Gauge) → Ones k xs gs → (fold both a gs).count ≡ min (a.count + in_use k xs) 4294967295

@@ -1,21 +1,36 @@
 -- Bounds by powers of two.
-use Rattle.std.proofs.Common.{◌≡◌, ℕ, ◌+◌, ◌*◌, ◌^◌, ◌<◌, ◌≤◌, List, [], ◌∷◌, length, ap, inl, inr, lt_of_lt_of_le, arith, pow_mono, pow-add}
+use Rattle.std.proofs.Common.{◌≡◌, ℕ, ◌+◌, ◌*◌, ◌/◌, ◌^◌, ◌<◌, ◌≤◌, max, List, [], ◌∷◌, length, ap, ◌∙◌, inl, inr, lt_of_lt_of_le, arith, pow_pos, pow_mono, pow-add}
+use Rattle.std.specs.Int.{IsPowerOfTwo}
 use Rattle.std.proofs.lemmas.Bool.{cases_lt}
 use Rattle.numbers.specs.Lawful.{Lawful}
 use Rattle.kinds.specs.declared.kind.Kind.{Ghosts}
 use Rattle.slots.specs.Pass.{Numbers, in_use}
 use Rattle.settle.specs.Seen.{Under}
+use Rattle.settle.specs.Test.{Ceiling}
 
 pub double : (n : ℕ) → 2 ^ (n + 1) ≡ 2 ^ n * 2
 double n = pow-add 2 n 1
 
--- the exponent goes up by one while the power is too small
-pub ceiling_more : (z n : ℕ) → 2 ^ n < z → ((d : ℕ) → z ≤ 2 ^ d → n ≤ d) → (d : ℕ) → z ≤ 2 ^ d → n + 1 ≤ d
-ceiling_more z n h f d k =
-    elim (cases_lt n d) [
-      | inl a ↦ omega arith
-      | inr a ↦ let e : n ≡ d = omega (arith, f d k) in let p : 2 ^ n ≡ 2 ^ d = ap (λ m. 2 ^ m) e in absurd (omega arith)
+-- the logarithm of the least power of two that is no less than z
+pub ceiling_of : (z p r : ℕ) → IsPowerOfTwo p → z ≤ p → p / 2 < max 1 z → 2 ^ r ≤ p → p < 2 * 2 ^ r → Ceiling z r
+ceiling_of z p r (e, is) over under low high =
+    let same : p ≡ 2 ^ r =
+    elim (cases_lt e r) [
+      | inl a ↦ absurd (omega (arith, is, double e, pow_pos e, pow_mono {i = e + 1} {j = r} (omega arith)))
+      | inr a ↦
+          elim (cases_lt r e) [
+            | inl b ↦ absurd (omega (arith, is, double r, pow_mono {i = r + 1} {j = e} (omega arith)))
+            | inr b ↦ is ∙ ap (λ n. 2 ^ n) (omega arith)
+          ]
     ]
+    in
+    record {
+      over = omega (arith, same);
+      least = λ d fits. elim (cases_lt d r) [
+        | inl a ↦ absurd (omega (arith, same, double d, pow_pos d, pow_mono {i = d + 1} {j = r} (omega arith)))
+        | inr a ↦ a
+      ];
+    }
 
 module _ {K : Type 0} (k : Ghosts K) where
   pub under_weaker : (p q : ℕ) (xs : List ℕ) → p ≤ q → Under k p xs → Under k q xs

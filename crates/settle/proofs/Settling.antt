@@ -11,7 +11,8 @@ use Rattle.plans.proofs.Texts.{one_plan}
 use Rattle.slots.specs.Pass.{passed, Passed, Numbers, exact_sum, Cleared}
 use Rattle.slots.proofs.Keeps.{keeps}
 use Rattle.settle.specs.Test.{sum_answer, Names, Rejects}
-use Rattle.settle.specs.Settle.{passes}
+use Rattle.settle.specs.Settle.{passes, Ended, SettleMeans}
+use Rattle.settle.specs.declared.settled.Teller.{Teller}
 use Rattle.settle.proofs.Tested.{one_outcome, tells}
 
 -- n passes were made, and before each the test did not accept
@@ -36,9 +37,6 @@ module _ {K : Type 0} (k : Ghosts K) (l : Lawful k.number k.worth k.opposite k.a
   pub nearest_read : (v : ℤ) (p : ℕ) → answered (k.outcome v) ≡ Ok p → NoneNearer k.number k.worth v p
   nearest_read v p e = l.nearest_outcome v p (one_outcome (k.outcome v) (number p) e)
 
-  pub nearest : (xs : List ℕ) (o : Result ℕ Refusal) → o ≡ sum_answer k xs → (p : ℕ) → o ≡ Ok p → NoneNearer k.number k.worth (exact_sum k xs) p
-  nearest xs o e p f = nearest_read (exact_sum k xs) p (sym e ∙ f)
-
   module _ (plan : List ℕ) (budget : ℕ) (before : List ℕ) where
     abbrev S : ℕ → List ℕ → Type 0
     S = Settling k plan budget before
@@ -59,6 +57,21 @@ module _ {K : Type 0} (k : Ghosts K) (l : Lawful k.number k.worth k.opposite k.a
           total = ap (exact_sum k) made ∙ kept.sum ∙ s.total;
           earlier = below_more (λ i. Rejects k (passes k s.by i before)) n s.earlier (subst (Rejects k) s.left r);
         }
+
+    -- what the settle means that ends here
+    pub ends_here : {n : ℕ} {slots : List ℕ} {o : Result ℕ Refusal} {by : Teller} → S n slots → o ≡ sum_answer k before → Ended k budget slots o n by
+        → SettleMeans k plan budget before slots (record { outcome = o; passes = n; by = by })
+    ends_here {o = o} s is e = record {
+      by = s.by;
+      written = s.written;
+      counted = s.counted;
+      outcome = is;
+      nearest = λ p f. nearest_read (exact_sum k before) p (sym is ∙ f);
+      most = s.most;
+      left = s.left;
+      earlier = s.earlier;
+      ended = e;
+    }
 
     pub named : (n : ℕ) (slots : List ℕ) (o : Result ℕ Refusal) → S n slots → Names k slots o → o ≡ sum_answer k before
     named n slots o s names = (tells k l).names slots o names ∙ ap (λ z. answered (k.outcome z)) s.total

@@ -5,6 +5,7 @@ ghost use Rattle.settle.specs.Seen.{One, Many};
 
 use crate::adding::sum_of;
 use crate::gauge::Gauge;
+use arrayvec::ArrayVec;
 use join::fold;
 use kinds::kind::Kind;
 
@@ -23,9 +24,9 @@ pub(crate) fn gauge_of<K: Kind>(numbers: &[u64]) -> Gauge
     requires { (Numbers K.Kind numbers.now) × (length numbers.now ≤ 4096) }
     ensures { Many K.Kind numbers.now result }
 {
-    let mut gauges = [Gauge { count: 0, peak: 0 }; 4096];
-    for i in 0..numbers.len() {
-        gauges[i] = gauge_of_number::<K>(numbers[i]);
+    let mut gauges = ArrayVec::<Gauge, 4096>::new();
+    for &p in numbers {
+        gauges.push(gauge_of_number::<K>(p));
     }
-    fold(&gauges[0..numbers.len()])
+    fold(gauges.as_slice())
 }

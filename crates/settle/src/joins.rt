@@ -6,13 +6,15 @@ ghost use Rattle.settle.specs.Laws.{both_assoc, both_comm, both_none};
 use crate::gauge::Gauge;
 use join::Join;
 
-impl Gauge {
-    fn none() -> Gauge
-        ensures { result ≡ none_seen }
-    {
+impl Default for Gauge {
+    ghost is_default = { λ gauge. gauge ≡ none_seen };
+
+    fn default() -> Gauge {
         Gauge { count: 0, peak: 0 }
     }
+}
 
+impl Gauge {
     fn with(&self, other: &Gauge) -> Gauge
         ensures { result ≡ both self.now other.now }
     {
@@ -35,7 +37,7 @@ impl Join for Gauge {
     ghost unit = { both_none };
 
     fn neutral() -> Gauge {
-        Gauge::none()
+        Gauge::default()
     }
 
     fn join(&mut self, other: &Gauge) {

@@ -52,8 +52,7 @@ fn settle_by<K: Kind>(slots: &mut [u64], column: &mut [u64], plan: &[u8], budget
     ensures column { Cleared (length slots.old) column.old column.new }
 {
     clear(column, slots.len());
-    let mut passes = 0;
-    loop {
+    for passes in 0..budget {
         if let Some(outcome) = test::<K>(slots) {
             return Settled {
                 outcome,
@@ -61,15 +60,18 @@ fn settle_by<K: Kind>(slots: &mut [u64], column: &mut [u64], plan: &[u8], budget
                 by: Teller::Test,
             };
         }
-        if passes == budget {
-            break;
-        }
         pass_by::<K>(slots, column, plan);
-        passes += 1;
     }
-    Settled {
-        outcome: K::outcome(&sum_of::<K>(slots)),
-        passes,
-        by: Teller::Register,
+    match test::<K>(slots) {
+        Some(outcome) => Settled {
+            outcome,
+            passes: budget,
+            by: Teller::Test,
+        },
+        None => Settled {
+            outcome: K::outcome(&sum_of::<K>(slots)),
+            passes: budget,
+            by: Teller::Register,
+        },
     }
 }

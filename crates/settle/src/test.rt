@@ -14,13 +14,7 @@ fn ceiling(count: u32) -> u32
     requires { count ≤ 4096 }
     ensures { Ceiling count result }
 {
-    let mut power = 1;
-    let mut exponent = 0;
-    while power < count {
-        power *= 2;
-        exponent += 1;
-    }
-    exponent
+    count.next_power_of_two().ilog2()
 }
 
 // What the highest and the lowest sum read that the slots can have, by the first two and the gauge of the others.
@@ -47,23 +41,11 @@ fn ends<K: Kind>(slots: &[u64]) -> (Result<u64, Refusal>, Result<u64, Refusal>)
     (K::outcome(&high), K::outcome(&low))
 }
 
-// Whether two outcomes are the same.
-fn alike(a: Result<u64, Refusal>, b: Result<u64, Refusal>) -> bool
-    ensures same { result ≡ true → a ≡ b }
-    ensures other { result ≡ false → a ≢ b }
-{
-    match (a, b) {
-        (Ok(p), Ok(q)) => p == q,
-        (Err(why), Err(other)) => why == other,
-        _ => false,
-    }
-}
-
 // The outcome of the sum of all slots, if the test accepts them.
 pub(crate) fn test<K: Kind>(slots: &[u64]) -> Option<Result<u64, Refusal>>
     requires { (Numbers K.Kind slots.now) × ((2 ≤ length slots.now) × (length slots.now ≤ 4096)) }
     ensures { TestAnswer K.Kind slots.now result }
 {
     let (high, low) = ends::<K>(slots);
-    if alike(high, low) { Some(high) } else { None }
+    if high == low { Some(high) } else { None }
 }

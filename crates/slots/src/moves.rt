@@ -10,9 +10,7 @@ pub fn clear(words: &mut [u64], count: usize)
     requires { count ≤ length words.old }
     ensures { Cleared count words.old words.new }
 {
-    for k in 0..count {
-        words[k] = 0;
-    }
+    words[..count].fill(0);
 }
 
 // Adds the two values from `low` on in the column: their sum stays there, and what remains goes to the slot of the pair.

@@ -1,6 +1,7 @@
-use Rattle.std.proofs.Common.{◌≡◌, length, take}
+use Rattle.std.proofs.Common.{◌≡◌, take}
+use Rattle.arrayvec.specs.ArrayVec.{array_vec_len}
 use Rattle.settle.proofs.Folded.{Ones}
 use Rattle.settle.proofs.gauging.gauge_of.Given as goal
 
-abbrev pub invariant-loop-i : goal.invariant-loop-i
-invariant-loop-i g l = (length l.gauges ≡ 4096) × Ones g.K.Kind (take l.i l.numbers) (take l.i l.gauges)
+abbrev pub invariant-loop-p : goal.invariant-loop-p
+invariant-loop-p g l = (array_vec_len l.gauges ≡ l.p-index) × Ones g.K.Kind (take l.p-index l.numbers) l.gauges.items
