@@ -11,10 +11,9 @@ use Rattle.settle.specs.Test.{Ceiling}
 pub double : (n : ℕ) → 2 ^ (n + 1) ≡ 2 ^ n * 2
 double n = pow-add 2 n 1
 
--- the logarithm of the least power of two that is no less than z
-pub ceiling_of : (z p r : ℕ) → IsPowerOfTwo p → z ≤ p → p / 2 < max 1 z → 2 ^ r ≤ p → p < 2 * 2 ^ r → Ceiling z r
-ceiling_of z p r (e, is) over under low high =
-    let same : p ≡ 2 ^ r =
+-- a power of two by its logarithm
+pub power_of_log : (p r : ℕ) → IsPowerOfTwo p → 2 ^ r ≤ p → p < 2 * 2 ^ r → p ≡ 2 ^ r
+power_of_log p r (e, is) low high =
     elim (cases_lt e r) [
       | inl a ↦ absurd (omega (arith, is, double e, pow_pos e, pow_mono {i = e + 1} {j = r} (omega arith)))
       | inr a ↦
@@ -23,14 +22,16 @@ ceiling_of z p r (e, is) over under low high =
             | inr b ↦ is ∙ ap (λ n. 2 ^ n) (omega arith)
           ]
     ]
-    in
-    record {
-      over = omega (arith, same);
-      least = λ d fits. elim (cases_lt d r) [
-        | inl a ↦ absurd (omega (arith, same, double d, pow_pos d, pow_mono {i = d + 1} {j = r} (omega arith)))
-        | inr a ↦ a
-      ];
-    }
+
+-- the least power of two that is no less than z
+pub ceiling_of : (z r : ℕ) → z ≤ 2 ^ r → 2 ^ r / 2 < max 1 z → Ceiling z r
+ceiling_of z r over under = record {
+  over = over;
+  least = λ d fits. elim (cases_lt d r) [
+    | inl a ↦ absurd (omega (arith, double d, pow_pos d, pow_mono {i = d + 1} {j = r} (omega arith)))
+    | inr a ↦ a
+  ];
+}
 
 module _ {K : Type 0} (k : Ghosts K) where
   pub under_weaker : (p q : ℕ) (xs : List ℕ) → p ≤ q → Under k p xs → Under k q xs

@@ -10,6 +10,7 @@ use refusals::Refusal;
 use register::Scaled;
 
 // The exponent of the least power of two that is at least the count.
+#[tactic(auto, using(crate::proofs::Powers::power_of_log, crate::proofs::Powers::ceiling_of))]
 fn ceiling(count: u32) -> u32
     requires { count ≤ 4096 }
     ensures { Ceiling count result }
