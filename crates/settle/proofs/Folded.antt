@@ -8,8 +8,9 @@ use Rattle.settle.specs.Both.{none_seen, both}
 use Rattle.slots.specs.Pass.{in_use}
 use Rattle.register.specs.Limbs.{LeastBits}
 use Rattle.kinds.specs.declared.kind.Kind.{Ghosts}
+use Rattle.std.proofs.lemmas.List.Elements.{All-nil, All-cons, All-head, All-tail}
 use Rattle.settle.proofs.Powers.{under_weaker}
-use Rattle.settle.specs.Seen.{One, Many, Peak}
+use Rattle.settle.specs.Seen.{Below, One, Many, Peak}
 
 pub one_count : (m s n : ℕ) → LeastBits m s → 0 < s → n ≡ 1 → n ≡ min 1 m
 one_count m s n z h e =
@@ -57,7 +58,7 @@ module _ {K : Type 0} (k : Ghosts K) where
   peak_from a (g ∷ gs) = let r = peak_from (both a g) gs in omega (arith, r)
 
   peak_tops : (xs : List ℕ) (gs : List Gauge) → Ones k xs gs → Peak k xs (tops gs)
-  peak_tops [] [] e = record { under = tt; least = λ q u. omega arith }
+  peak_tops [] [] e = record { under = All-nil (Below k 0); least = λ q u. omega arith }
   peak_tops [] (g ∷ gs) e = absurd e
   peak_tops (x ∷ xs) [] e = absurd e
   peak_tops (x ∷ xs) (g ∷ gs) e =
@@ -65,8 +66,13 @@ module _ {K : Type 0} (k : Ghosts K) where
       let z = e.0.sized in
       let le : g.peak ≤ max g.peak (tops gs) = omega arith in
       record {
-        under = (lt_of_lt_of_le z.enough (pow_mono le), under_weaker k (tops gs) (max g.peak (tops gs)) xs (omega arith) r.under);
-        least = λ q u. let a = z.least q u.0 in let b = r.least q u.1 in omega arith;
+        under =
+            All-cons (Below k (max g.peak (tops gs))) x xs (lt_of_lt_of_le z.enough (pow_mono le))
+            (under_weaker k (tops gs) (max g.peak (tops gs)) xs (omega arith) r.under);
+        least = λ q u.
+            let a = z.least q (All-head (Below k q) x xs u) in
+            let b = r.least q (All-tail (Below k q) x xs u) in
+            omega arith;
       }
 
   pub many : (xs : List ℕ) (gs : List Gauge) → Ones k xs gs → Many k xs (fold both none_seen gs)

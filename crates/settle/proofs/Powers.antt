@@ -35,13 +35,11 @@ ceiling_of z r over under = record {
 
 module _ {K : Type 0} (k : Ghosts K) where
   pub under_weaker : (p q : ℕ) (xs : List ℕ) → p ≤ q → Under k p xs → Under k q xs
-  under_weaker p q [] h u = tt
-  under_weaker p q (x ∷ xs) h u = (lt_of_lt_of_le u.0 (pow_mono h), under_weaker p q xs h u.1)
+  under_weaker p q xs h u i d l = lt_of_lt_of_le (u i d l) (pow_mono h)
 
   pub in_use_length : (xs : List ℕ) → in_use k xs ≤ length xs
   in_use_length [] = omega arith
   in_use_length (x ∷ xs) = let h = in_use_length xs in omega arith
 
   pub under_law : Lawful k.number k.worth k.opposite k.adder k.outcome → (xs : List ℕ) → Numbers k xs → Under k 2098 xs
-  under_law l [] n = tt
-  under_law l (x ∷ xs) n = (l.bounded_worths x n.0, under_law l xs n.1)
+  under_law l xs n i d h = l.bounded_worths _ (n i d h)

@@ -8,8 +8,9 @@ use Rattle.register.specs.Whole.{half_pos, sum_size}
 use Rattle.register.specs.Wrapping.{wrap_fits}
 use Rattle.kinds.specs.declared.kind.Kind.{Ghosts}
 use Rattle.slots.specs.Pass.{Numbers, exact_sum, in_use}
-use Rattle.settle.specs.Seen.{Under, Peak}
+use Rattle.settle.specs.Seen.{Below, Under, Peak}
 use Rattle.settle.specs.Test.{Ceiling, Reach, none, some}
+use Rattle.std.proofs.lemmas.List.Elements.{All-head, All-tail}
 use Rattle.settle.proofs.Powers.{under_law, in_use_length}
 
 -- as far as 4096 worths reach
@@ -40,8 +41,8 @@ module _ {K : Type 0} (k : Ghosts K) where
   sum_bound : (p : ℕ) (xs : List ℕ) → Under k p xs → nat_abs (exact_sum k xs) ≤ in_use k xs * 2 ^ p
   sum_bound p [] h = omega arith
   sum_bound p (x ∷ xs) h =
-      let a = sized (nat_abs (k.worth x)) (2 ^ p) h.0 in
-      let b = sum_bound p xs h.1 in
+      let a = sized (nat_abs (k.worth x)) (2 ^ p) (All-head (Below k p) x xs h) in
+      let b = sum_bound p xs (All-tail (Below k p) x xs h) in
       let t = sum_size (k.worth x) (exact_sum k xs) in
       omega (arith, add-mul (min 1 (nat_abs (k.worth x))) (in_use k xs) (2 ^ p))
 

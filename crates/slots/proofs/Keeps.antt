@@ -1,32 +1,18 @@
 -- What a pass keeps, from the laws of a kind alone.
-use Rattle.std.proofs.Common.{◌≡◌, ℕ, zero, suc, ◌+◌, ◌<◌, ◌≤◌, min, T, List, [], ◌∷◌, ◌++◌, length, get_or, take, drop, ℤ, ◌+ℤ◌, nat_abs, sym, refl, ap, ◌∙◌, subst, inl, inr, arith, length-append, length-drop, take_all, take-add}
+use Rattle.std.proofs.Common.{◌≡◌, ℕ, ◌+◌, ◌≤◌, min, T, List, [], ◌∷◌, ◌++◌, length, take, drop, ℤ, ◌+ℤ◌, nat_abs, sym, refl, ap, ◌∙◌, subst, inl, inr, arith, length-append, length-drop, take_all, take-add}
 use borrow.Author.Differences.{ints}
 use Rattle.std.proofs.lemmas.Bool.{cases_lt}
 use Rattle.numbers.specs.Lawful.{Lawful}
 use Rattle.kinds.specs.declared.kind.Kind.{Ghosts}
 use Rattle.plans.specs.Plan.{Plan, dot, pair, dots}
+use Rattle.std.proofs.lemmas.List.Elements.{All-nil, All-cons, All-head, All-tail, All-append, All-drop}
 use Rattle.slots.specs.Pass.{sum_of, rest_of, value, remains, passed, Adds, slot, both, ByRule, Numbers, exact_sum, in_use, PassKeeps}
 
+-- whether a pattern is a number, as a fact
+abbrev pub Number : {K : Type 0} → Ghosts K → ℕ → Type 0
+Number k p = T (k.number p)
+
 module _ {K : Type 0} (k : Ghosts K) where
-  pub numbers_append : (xs ys : List ℕ) → Numbers k xs → Numbers k ys → Numbers k (xs ++ ys)
-  numbers_append [] ys a b = b
-  numbers_append (x ∷ xs) ys a b = (a.0, numbers_append xs ys a.1 b)
-
-  pub numbers_drop : (n : ℕ) (xs : List ℕ) → Numbers k xs → Numbers k (drop n xs)
-  numbers_drop zero xs a = a
-  numbers_drop (suc n) [] a = a
-  numbers_drop (suc n) (x ∷ xs) a = numbers_drop n xs a.1
-
-  pub numbers_take : (n : ℕ) (xs : List ℕ) → Numbers k xs → Numbers k (take n xs)
-  numbers_take zero xs a = tt
-  numbers_take (suc n) [] a = a
-  numbers_take (suc n) (x ∷ xs) a = (a.0, numbers_take n xs a.1)
-
-  pub numbers_at : (xs : List ℕ) (i : ℕ) → i < length xs → Numbers k xs → T (k.number (get_or xs i 0))
-  numbers_at [] i h a = absurd (omega arith)
-  numbers_at (x ∷ xs) zero h a = a.0
-  numbers_at (x ∷ xs) (suc i) h a = numbers_at xs i (omega arith) a.1
-
   pub exact_sum_append : (xs ys : List ℕ) → exact_sum k (xs ++ ys) ≡ exact_sum k xs +ℤ exact_sum k ys
   exact_sum_append [] ys = omega (arith, ints)
   exact_sum_append (x ∷ xs) ys = let e = exact_sum_append xs ys in omega (arith, ints)
@@ -66,32 +52,36 @@ module _ {K : Type 0} (k : Ghosts K) (l : Lawful k.number k.worth k.opposite k.a
   sum_number p q a b = (l.nearest_sum p q a b).found
 
   pub value_number : (p : Plan) (xs : List ℕ) → dots p ≤ length xs → Numbers k xs → T (k.number (value k p xs))
-  value_number dot xs h n = numbers_at k xs 0 h n
+  value_number dot xs h n = n 0 0 h
   value_number (pair a b) xs h n =
       sum_number _ _ (value_number a xs (omega arith) n)
-      (value_number b (drop (dots a) xs) (simp length-drop (omega arith)) (numbers_drop k (dots a) xs n))
+      (value_number b (drop (dots a) xs) (simp length-drop (omega arith)) (All-drop (Number k) (dots a) xs n))
 
   -- the two parts of a pair
   pub left_number : (a b : Plan) (xs : List ℕ) → dots a + dots b ≤ length xs → Numbers k xs → T (k.number (value k a xs))
   left_number a b xs h n = value_number a xs (omega arith) n
 
   pub right_number : (a b : Plan) (xs : List ℕ) → dots a + dots b ≤ length xs → Numbers k xs → T (k.number (value k b (drop (dots a) xs)))
-  right_number a b xs h n = value_number b (drop (dots a) xs) (simp length-drop (omega arith)) (numbers_drop k (dots a) xs n)
+  right_number a b xs h n = value_number b (drop (dots a) xs) (simp length-drop (omega arith)) (All-drop (Number k) (dots a) xs n)
 
   remains_numbers : (p : Plan) (xs : List ℕ) → dots p ≤ length xs → Numbers k xs → Numbers k (remains k p xs)
-  remains_numbers dot xs h n = tt
+  remains_numbers dot xs h n = All-nil (Number k)
   remains_numbers (pair a b) xs h n =
       let ys = drop (dots a) xs in
       let here = l.remainder_is_number _ _ (left_number a b xs h n) (right_number a b xs h n) in
-      numbers_append k (remains k a xs) _ (remains_numbers a xs (omega arith) n)
-      (numbers_append k (remains k b ys) _ (remains_numbers b ys (simp length-drop (omega arith)) (numbers_drop k (dots a) xs n)) (here, tt))
+      All-append (Number k) (remains k a xs) _ (remains_numbers a xs (omega arith) n)
+      (All-append (Number k) (remains k b ys) _ (remains_numbers b ys (simp length-drop (omega arith)) (All-drop (Number k) (dots a) xs n)) (All-cons (Number k) _ [] here (All-nil (Number k))))
 
   -- every slot is a number still
   pub passed_numbers : (p : Plan) (xs : List ℕ) → length xs ≡ dots p + 1 → Numbers k xs → Numbers k (passed k p xs)
-  passed_numbers p [] h n = tt
+  passed_numbers p [] h n = All-nil (Number k)
   passed_numbers p (x ∷ xs) h n =
-      let v = value_number p xs (omega arith) n.1 in
-      (sum_number _ _ n.0 v, (l.remainder_is_number _ _ n.0 v, remains_numbers p xs (omega arith) n.1))
+      let lead = All-head (Number k) x xs n in
+      let others = All-tail (Number k) x xs n in
+      let v = value_number p xs (omega arith) others in
+      let r = rest_of k x (value k p xs) in
+      All-cons (Number k) (sum_of k x (value k p xs)) (r ∷ remains k p xs) (sum_number _ _ lead v)
+      (All-cons (Number k) r (remains k p xs) (l.remainder_is_number _ _ lead v) (remains_numbers p xs (omega arith) others))
 
   -- a plan keeps the sum of its slots
   pub value_sum : (p : Plan) (xs : List ℕ) → dots p ≤ length xs → Numbers k xs
@@ -102,7 +92,7 @@ module _ {K : Type 0} (k : Ghosts K) (l : Lawful k.number k.worth k.opposite k.a
       let ys = drop (dots a) xs in
       let r = rest_of k (value k a xs) (value k b ys) in
       let ea = value_sum a xs (omega arith) n in
-      let eb = value_sum b ys (simp length-drop (omega arith)) (numbers_drop k (dots a) xs n) in
+      let eb = value_sum b ys (simp length-drop (omega arith)) (All-drop (Number k) (dots a) xs n) in
       let ex = l.nothing_lost (value k a xs) (value k b ys) (left_number a b xs h n) (right_number a b xs h n) in
       let s₁ = exact_sum_append k (remains k a xs) (remains k b ys ++ (r ∷ [])) in
       let s₂ = exact_sum_append k (remains k b ys) (r ∷ []) in
@@ -113,9 +103,10 @@ module _ {K : Type 0} (k : Ghosts K) (l : Lawful k.number k.worth k.opposite k.a
   pub passed_sum : (p : Plan) (xs : List ℕ) → length xs ≡ dots p + 1 → Numbers k xs → exact_sum k (passed k p xs) ≡ exact_sum k xs
   passed_sum p [] h n = refl
   passed_sum p (x ∷ xs) h n =
-      let e = value_sum p xs (omega arith) n.1 in
+      let others = All-tail (Number k) x xs n in
+      let e = value_sum p xs (omega arith) others in
       let all = ap (exact_sum k) (take_all (dots p) xs (omega arith)) in
-      let ex = l.nothing_lost x (value k p xs) n.0 (value_number p xs (omega arith) n.1) in
+      let ex = l.nothing_lost x (value k p xs) (All-head (Number k) x xs n) (value_number p xs (omega arith) others) in
       omega (arith, ints)
 
   -- one call of the adder puts no more numbers in use
@@ -131,7 +122,7 @@ module _ {K : Type 0} (k : Ghosts K) (l : Lawful k.number k.worth k.opposite k.a
       let ys = drop (dots a) xs in
       let r = rest_of k (value k a xs) (value k b ys) in
       let ea = value_in_use a xs (omega arith) n in
-      let eb = value_in_use b ys (simp length-drop (omega arith)) (numbers_drop k (dots a) xs n) in
+      let eb = value_in_use b ys (simp length-drop (omega arith)) (All-drop (Number k) (dots a) xs n) in
       let ex = one (value k a xs) (value k b ys) (left_number a b xs h n) (right_number a b xs h n) in
       let s₁ = in_use_append k (remains k a xs) (remains k b ys ++ (r ∷ [])) in
       let s₂ = in_use_append k (remains k b ys) (r ∷ []) in
@@ -142,9 +133,10 @@ module _ {K : Type 0} (k : Ghosts K) (l : Lawful k.number k.worth k.opposite k.a
   pub passed_in_use : (p : Plan) (xs : List ℕ) → length xs ≡ dots p + 1 → Numbers k xs → in_use k (passed k p xs) ≤ in_use k xs
   passed_in_use p [] h n = omega arith
   passed_in_use p (x ∷ xs) h n =
-      let e = value_in_use p xs (omega arith) n.1 in
+      let others = All-tail (Number k) x xs n in
+      let e = value_in_use p xs (omega arith) others in
       let all = ap (in_use k) (take_all (dots p) xs (omega arith)) in
-      let ex = one x (value k p xs) n.0 (value_number p xs (omega arith) n.1) in
+      let ex = one x (value k p xs) (All-head (Number k) x xs n) (value_number p xs (omega arith) others) in
       omega arith
 
 length_passed : {K : Type 0} (k : Ghosts K) (p : Plan) (xs : List ℕ) → length xs ≡ dots p + 1 → length (passed k p xs) ≡ length xs

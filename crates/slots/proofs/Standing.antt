@@ -2,11 +2,12 @@
 use Rattle.std.proofs.Common.{◌≡◌, ℕ, ◌+◌, ◌-◌, ◌<◌, ◌≤◌, T, ◌≢◌, List, [], ◌∷◌, ◌++◌, length, get_or, take, drop, set, replicate, sym, refl, ap, ◌∙◌, subst, ap₂, subst₂, append_assoc, arith, length-append, length-drop, length-set, length-take, get_or-drop, take_all, get_or-set_other, get_or-take, take-take, drop-drop, take_at, drop-set-lt}
 use lib.Seq.{drop-set-add, get_or_at}
 use Rattle.std.proofs.lemmas.List.{drop_more, drop_all, take_more_set}
+use Rattle.std.proofs.lemmas.List.Elements.{All-drop}
 use Rattle.numbers.specs.Lawful.{Lawful}
 use Rattle.kinds.specs.declared.kind.Kind.{Ghosts}
 use Rattle.plans.specs.Plan.{Plan, text, dots, IsPlan}
 use Rattle.slots.specs.Pass.{sum_of, rest_of, value, remains, passed, Passed, Numbers, Cleared}
-use Rattle.slots.proofs.Keeps.{numbers_at, numbers_drop, value_number, length_remains}
+use Rattle.slots.proofs.Keeps.{Number, value_number, length_remains}
 use Rattle.slots.proofs.Todo.{After, start, step_open, step_dot, step_close, step_other, finish}
 
 -- i bytes are read; the values that wait stand in the column, the slots from `next` on are not read yet, and the remainders stand from slot 2 on
@@ -35,7 +36,7 @@ module _ {K : Type 0} (k : Ghosts K) (l : Lawful k.number k.worth k.opposite k.a
         written = p.written;
         counted = omega (arith, p.counted);
         after = subst (λ t. After k (value k p.plan (drop 1 before)) (remains k p.plan (drop 1 before)) t [] (drop 1 before) []) p.written
-            (start k l _ _ p.plan (drop 1 before) le (numbers_drop k 1 before n) refl refl);
+            (start k l _ _ p.plan (drop 1 before) le (All-drop (Number k) 1 before n) refl refl);
         sizes = refl;
         within = omega arith;
         same = refl;
@@ -213,10 +214,10 @@ module _ {K : Type 0} (k : Ghosts K) (l : Lawful k.number k.worth k.opposite k.a
     pub whole_number : length plan ≤ i → Numbers k before → T (k.number (get_or column 0 0))
     whole_number h n =
         let le : dots s.by ≤ length (drop 1 before) = simp length-drop (omega (arith, s.counted)) in
-        subst (λ x. T (k.number x)) (sym (whole h)) (value_number k l s.by (drop 1 before) le (numbers_drop k 1 before n))
+        subst (λ x. T (k.number x)) (sym (whole h)) (value_number k l s.by (drop 1 before) le (All-drop (Number k) 1 before n))
 
     pub lead_number : 2 ≤ length before → Numbers k before → T (k.number (get_or slots 0 0))
-    lead_number h n = subst (λ x. T (k.number x)) (sym s.lead) (numbers_at k before 0 (omega arith) n)
+    lead_number h n = subst (λ x. T (k.number x)) (sym s.lead) (n 0 0 (omega arith))
 
     two_first : (xs : List ℕ) (x y : ℕ) → 2 ≤ length xs → set (set xs 0 x) 1 y ≡ x ∷ (y ∷ drop 2 xs)
     two_first [] x y h = absurd (omega arith)

@@ -1,10 +1,11 @@
 -- What is still to come of a pass of which a start has been made.
 use Rattle.std.proofs.Common.{◌≡◌, ℕ, ◌+◌, ◌<◌, ◌≤◌, T, List, [], ◌∷◌, ◌++◌, length, get_or, drop, sym, refl, ap, ◌∙◌, subst, subst₂, append_assoc, append-nil, arith, length-drop, drop-drop}
+use Rattle.std.proofs.lemmas.List.Elements.{All-drop}
 use Rattle.numbers.specs.Lawful.{Lawful}
 use Rattle.kinds.specs.declared.kind.Kind.{Ghosts}
 use Rattle.plans.specs.Plan.{Plan, dot, pair, text, dots}
 use Rattle.slots.specs.Pass.{sum_of, rest_of, value, remains, Numbers}
-use Rattle.slots.proofs.Keeps.{left_number, right_number, numbers_drop}
+use Rattle.slots.proofs.Keeps.{left_number, right_number, Number}
 
 -- a part of the plan, or a closing bracket
 pub data Todo : Type 0 where
@@ -82,7 +83,7 @@ module _ {K : Type 0} (k : Ghosts K) (l : Lawful k.number k.worth k.opposite k.a
         n,
         (
           simp length-drop (omega arith),
-          numbers_drop k (dots a) xs n,
+          All-drop (Number k) (dots a) xs n,
           (st, (x, (y, (both, left_number k l a b xs h n, right_number k l a b xs h n, fin)))),
         ),
       )

@@ -1,5 +1,5 @@
 -- What a pass makes of the slots, for any kind.
-use Rattle.std.specs.Prelude.{◌≡◌, ℕ, ◌+◌, ◌≤◌, min, T, List, [], ◌∷◌, ◌++◌, length, drop, replicate, ℤ, pos, ◌+ℤ◌, slice_index, unsigned_abs}
+use Rattle.std.specs.Prelude.{◌≡◌, ℕ, ◌+◌, ◌≤◌, min, T, All, List, [], ◌∷◌, ◌++◌, length, drop, replicate, ℤ, pos, ◌+ℤ◌, slice_index, unsigned_abs}
 use Rattle.kinds.specs.declared.kind.Kind.{Ghosts}
 use Rattle.plans.specs.Plan.{Plan, dot, pair, text, dots}
 
@@ -51,8 +51,7 @@ module _ {K : Type 0} (k : Ghosts K) where
 
   -- every slot is a number
   abbrev pub Numbers : List ℕ → Type 0
-  Numbers [] = Unit {0}
-  Numbers (x ∷ xs) = T (k.number x) × Numbers xs
+  Numbers xs = All (λ p. T (k.number p)) xs
 
   abbrev pub exact_sum : List ℕ → ℤ
   exact_sum [] = pos 0

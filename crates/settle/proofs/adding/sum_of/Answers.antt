@@ -7,12 +7,12 @@ use Rattle.register.specs.Laws.{value_register_of}
 use Rattle.register.specs.Whole.{half_pos}
 use Rattle.register.specs.Wrapping.{wrap_left}
 use Rattle.slots.specs.Pass.{exact_sum}
-use Rattle.slots.proofs.Keeps.{numbers_at, exact_sum_append}
+use Rattle.slots.proofs.Keeps.{exact_sum_append}
 use Rattle.settle.proofs.Wide.{exact}
 use Rattle.settle.proofs.adding.sum_of.Goals as goal
 
 pub worth-requires : goal.worth-requires
-worth-requires g c = numbers_at g.K.Kind _ _ c.loop-p-test.true c.requires.0
+worth-requires g c = c.requires.0 c.loop-p.p-index 0 c.loop-p-test.true
 
 pub loop-p-init : goal.loop-p-init
 loop-p-init g c = ap value c.zero-sum.ensures ∙ value_register_of (pos 0)

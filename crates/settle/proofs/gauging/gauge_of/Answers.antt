@@ -1,12 +1,11 @@
 use Rattle.std.proofs.Common.{fold, sym, ap, ◌∙◌, subst, arith, take_all}
-use Rattle.slots.proofs.Keeps.{numbers_at}
 use Rattle.settle.specs.Both.{none_seen, both}
 use Rattle.settle.specs.Seen.{Many}
 use Rattle.settle.proofs.Folded.{Ones, ones_more, many}
 use Rattle.settle.proofs.gauging.gauge_of.Goals as goal
 
 pub gauge_of_number-requires : goal.gauge_of_number-requires
-gauge_of_number-requires g c = numbers_at g.K.Kind _ _ c.loop-p-test.true c.requires.0
+gauge_of_number-requires g c = c.requires.0 c.loop-p.p-index 0 c.loop-p-test.true
 
 pub loop-p-preserved : goal.loop-p-preserved
 loop-p-preserved g c =

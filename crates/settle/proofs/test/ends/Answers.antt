@@ -1,10 +1,11 @@
 use Rattle.std.proofs.Common.{◌≡◌, ◌+◌, ◌^◌, ◌≤◌, length, take, drop, sym, ap, ◌∙◌, subst, arith, length-drop, length-take}
 use lib.IntN.{+ℤ_idr}
 use Rattle.std.proofs.lemmas.List.{take_rest}
+use Rattle.std.proofs.lemmas.List.Elements.{All-take, All-drop}
 use Rattle.register.specs.Value.{value}
 use Rattle.kinds.specs.Answer.{answered}
 use Rattle.slots.specs.Pass.{exact_sum, in_use}
-use Rattle.slots.proofs.Keeps.{numbers_drop, numbers_take}
+use Rattle.slots.proofs.Keeps.{Number}
 use Rattle.settle.specs.Seen.{Many}
 use Rattle.settle.specs.Test.{Ceiling, none, some}
 use Rattle.settle.proofs.Powers.{in_use_length}
@@ -16,12 +17,12 @@ use Rattle.settle.proofs.test.ends.Goals.{then-gauge-gt0, else-gauge-gt0}
 pub gauge_of-gauge-requires : goal.gauge_of-gauge-requires
 gauge_of-gauge-requires g c =
     let xs = c.args.slots.now in
-    rw (take_rest xs 2) (numbers_drop g.K.Kind 2 xs c.requires.0, simp length-drop (omega (arith, c.requires.1.1)))
+    rw (take_rest xs 2) (All-drop (Number g.K.Kind) 2 xs c.requires.0, simp length-drop (omega (arith, c.requires.1.1)))
 
 pub sum_of-high-requires : goal.sum_of-high-requires
 sum_of-high-requires g c =
     let xs = c.args.slots.now in
-    (numbers_take g.K.Kind 2 xs c.requires.0, omega (arith, length-take 2 xs))
+    (All-take (Number g.K.Kind) 2 xs c.requires.0, omega (arith, length-take 2 xs))
 
 pub ceiling-requires : goal.ceiling-requires
 ceiling-requires g c =
@@ -35,7 +36,7 @@ overflow_add-shift g c =
     let k = g.K.Kind in
     let seen = subst (λ ys. Many k ys c.gauge_of-gauge.result) (take_rest xs 2) c.gauge_of-gauge.ensures in
     let few : c.gauge_of-gauge.result.count ≤ 4096 = omega (arith, seen.counted, in_use_length k (drop 2 xs), length-drop 2 xs, c.requires.1.1) in
-    let small = power_small k g.met.K.Kind.lawful (drop 2 xs) _ _ _ (numbers_drop k 2 xs c.requires.0) few c.ceiling.ensures seen.peak in
+    let small = power_small k g.met.K.Kind.lawful (drop 2 xs) _ _ _ (All-drop (Number k) 2 xs c.requires.0) few c.ceiling.ensures seen.peak in
     omega (arith, small)
 
 pub invariant_of-add_scaled : goal.invariant_of-add_scaled
@@ -44,7 +45,7 @@ invariant_of-add_scaled g c =
     let k = g.K.Kind in
     let seen = subst (λ ys. Many k ys c.gauge_of-gauge.result) (take_rest xs 2) c.gauge_of-gauge.ensures in
     let few : c.gauge_of-gauge.result.count ≤ 4096 = omega (arith, seen.counted, in_use_length k (drop 2 xs), length-drop 2 xs, c.requires.1.1) in
-    let small = power_small k g.met.K.Kind.lawful (drop 2 xs) _ _ _ (numbers_drop k 2 xs c.requires.0) few c.ceiling.ensures seen.peak in
+    let small = power_small k g.met.K.Kind.lawful (drop 2 xs) _ _ _ (All-drop (Number k) 2 xs c.requires.0) few c.ceiling.ensures seen.peak in
     record { low = omega (arith, small) }
 
 pub returns : goal.returns
@@ -57,12 +58,12 @@ returns g c =
     let long = length-drop 2 xs in
     let all : c.gauge_of-gauge.result.count ≡ in_use k (drop 2 xs) = omega (arith, seen.counted, used, long, c.requires.1.1) in
     let first = exact_sum k (take 2 xs) in
-    let two = numbers_take k 2 xs c.requires.0 in
+    let two = All-take (Number k) 2 xs c.requires.0 in
     let short : length (take 2 xs) ≤ 4096 = omega (arith, length-take 2 xs) in
     elim c.if-gauge-gt0.branch [
       | then-gauge-gt0 w ↦
           let few : c.gauge_of-gauge.result.count ≤ 4096 = omega (arith, all, used, long, c.requires.1.1) in
-          let small = power_small k law (drop 2 xs) _ _ _ (numbers_drop k 2 xs c.requires.0) few w.ceiling.ensures seen.peak in
+          let small = power_small k law (drop 2 xs) _ _ _ (All-drop (Number k) 2 xs c.requires.0) few w.ceiling.ensures seen.peak in
           let s = w.ceiling.result + c.gauge_of-gauge.result.peak in
           record {
             bound = 2 ^ s;
