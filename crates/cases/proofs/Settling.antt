@@ -1,16 +1,19 @@
 -- The settle of the examples, pass by pass.
 use Rattle.std.proofs.Common.{◌≡◌, ℕ, zero, suc, ◌^◌, ◌<◌, ◌≤◌, List, [], ◌∷◌, Ok, sym, refl, ap, subst, inl, inr, lt_irrefl, arith, lit<, lit≤, pow_mono}
 use Rattle.std.proofs.lemmas.Bool.{cases_lt}
+use Rattle.std.proofs.lemmas.List.Elements.{All-from_recursion}
 use Rattle.numbers.specs.Binary as formats
 use Rattle.numbers.specs.Nearest as nearest
 use Rattle.numbers.proofs.Binary as binary
 use Rattle.numbers.proofs.Laws.{lawful}
 use Rattle.plans.specs.Plan.{Plan, dot, pair}
-use Rattle.settle.specs.Seen.{Under, Peak}
+use Rattle.slots.specs.Pass.{exact_sum}
+use Rattle.slots.proofs.Keeps.{Number}
+use Rattle.settle.specs.Seen.{Below, Under, Peak}
 use Rattle.settle.specs.Settle.{passes}
 use Rattle.settle.specs.Test.{Ceiling, Reach, some, Rejects}
 use Rattle.settle.proofs.Powers.{under_weaker}
-use Rattle.settle.proofs.Settling as settling
+use Rattle.settle.proofs.Settling.{nearest_read}
 use Rattle.cases.specs.Examples.{binary64, slots, settled, OfSettling}
 use Rattle.cases.proofs.Plans.{no_plan_lem}
 
@@ -42,13 +45,15 @@ early : Reach binary64 (0x3FF0_0000_0000_0000 ∷ (1 ∷ [])) (2 ^ 1076)
 unfolding formats.worth
 early =
     some 1 1075 (lit< tt) (ceiling_of 2 0 (lit≤ tt) (lit< tt))
-    (peak_of (0x3FF0_0000_0000_0000 ∷ (1 ∷ [])) 1074 (lit< tt, (lit< tt, tt)) (λ u. lt_irrefl (2 ^ 1074) u.0))
+    (peak_of (0x3FF0_0000_0000_0000 ∷ (1 ∷ [])) 1074 (All-from_recursion (Below binary64 1075) (0x3FF0_0000_0000_0000 ∷ (1 ∷ [])) (lit< tt, (lit< tt, tt)))
+    (λ u. lt_irrefl (2 ^ 1074) (u 0 0 (lit≤ tt))))
 
 -- and then one unit alone
 late : Reach binary64 (0 ∷ (1 ∷ [])) 2
 unfolding formats.worth
 late =
-    some 0 1 (lit< tt) (record { over = lit≤ tt; least = λ d l. omega arith }) (peak_of (0 ∷ (1 ∷ [])) 0 (lit< tt, (lit< tt, tt)) (λ u. lt_irrefl 1 u.1.0))
+    some 0 1 (lit< tt) (record { over = lit≤ tt; least = λ d l. omega arith })
+    (peak_of (0 ∷ (1 ∷ [])) 0 (All-from_recursion (Below binary64 1) (0 ∷ (1 ∷ [])) (lit< tt, (lit< tt, tt))) (λ u. lt_irrefl 1 (u 1 0 (lit≤ tt))))
 
 rejects_0 : Rejects binary64 (after 0)
 unfolding formats.worth formats.pattern nearest.nearest nearest.outcome
@@ -98,13 +103,13 @@ pub of_settling : OfSettling
 unfolding formats.is_number formats.worth formats.pattern nearest.nearest nearest.outcome
 of_settling = record {
   by_register = λ a b c d e. (
-    record { count = (lit≤ tt, lit≤ tt); numbers = (tt, (tt, (tt, (tt, tt)))); room = lit≤ tt; plan = record { plan = plan; written = refl; counted = refl } },
+    record { count = (lit≤ tt, lit≤ tt); numbers = All-from_recursion (Number binary64) slots (tt, (tt, (tt, (tt, tt)))); room = lit≤ tt; plan = record { plan = plan; written = refl; counted = refl } },
     record {
       by = plan;
       written = refl;
       counted = refl;
       outcome = refl;
-      nearest = settling.nearest binary64 (lawful (formats.binary formats.binary64) (binary.codes formats.binary64 refl (lit< tt))) slots (Ok 0x4340_0000_0000_0001) refl;
+      nearest = nearest_read binary64 (lawful (formats.binary formats.binary64) (binary.codes formats.binary64 refl (lit< tt))) (exact_sum binary64 slots);
       most = lit≤ tt;
       left = sym (same 6);
       earlier = λ i h. rejects i;
