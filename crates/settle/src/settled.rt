@@ -8,7 +8,7 @@ pub enum Teller {
 }
 
 /// What a settle comes to.
-#[derive(Clone, Copy)]
+#[derive(Clone, Copy, PartialEq, Eq)]
 pub struct Settled {
     /// A number, or the refusal that says it is above or below the range.
     pub outcome: Result<u64, Refusal>,

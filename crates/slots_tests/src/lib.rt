@@ -11,33 +11,17 @@ mod tests {
     use refusals::Refusal;
     use settle::budget::Settings;
     use settle::settle::settle;
-    use settle::settled::Teller;
+    use settle::settled::{Settled, Teller};
     use slots::pass::pass;
     use std::process::Abort;
-    use std::test::Fail;
 
     // A pass leaves these slots, nothing in their part of the column, and the rest of it as it was.
     fn leaves<K: Kind>(rt: &impl Abort, slots: &mut [u64], plan: &[u8], after: &[u64]) {
         let mut column = [9; 8];
-        match pass::<K>(slots, &mut column, plan) {
-            Ok(()) => assert!(rt; *slots == *after),
-            Err(_) => assert!(rt; false),
-        }
+        assert!(rt; pass::<K>(slots, &mut column, plan) == Ok(()));
+        assert!(rt; *slots == *after);
         for (i, &word) in column.iter().enumerate() {
             assert!(rt; word == if i < after.len() { 0 } else { 9 });
-        }
-    }
-
-    fn refused(rt: &impl Abort, answer: Result<(), Refusal>, refusal: Refusal) -> Result<(), Fail> {
-        match answer {
-            Ok(()) => {
-                assert!(rt; false);
-                Ok(())
-            },
-            Err(why) => {
-                assert!(rt; why == refusal);
-                Ok(())
-            },
         }
     }
 
@@ -64,40 +48,23 @@ mod tests {
     }
 
     #[test]
-    fn questions_in_their_order(rt: HostRuntime) -> Result<(), Fail> {
+    fn questions_in_their_order(rt: HostRuntime) {
         let mut column = [9; 4];
         let mut few = [0x8000_0000];
-        refused(
-            &rt,
-            pass::<Count>(&mut few, &mut column, b"x"),
-            Refusal::WrongCount,
-        )?;
+        assert!(rt; pass::<Count>(&mut few, &mut column, b"x") == Err(Refusal::WrongCount));
         let mut slots = [1, 2, 0x8000_0000, 0x8000_0000, 5];
-        refused(
-            &rt,
-            pass::<Count>(&mut slots, &mut column, b"x"),
-            Refusal::SlotNotANumber(2),
-        )?;
+        assert!(rt;
+            pass::<Count>(&mut slots, &mut column, b"x") == Err(Refusal::SlotNotANumber(2))
+        );
         let mut five = [1, 2, 3, 4, 5];
-        refused(
-            &rt,
-            pass::<Count>(&mut five, &mut column, b"x"),
-            Refusal::ColumnTooShort,
-        )?;
+        assert!(rt; pass::<Count>(&mut five, &mut column, b"x") == Err(Refusal::ColumnTooShort));
         let mut four = [1, 2, 3, 4];
-        refused(
-            &rt,
-            pass::<Count>(&mut four, &mut column, b"((..)."),
-            Refusal::WrongPlanLength,
-        )?;
-        refused(
-            &rt,
-            pass::<Count>(&mut four, &mut column, b"((..)x)"),
-            Refusal::NotAPlan(5),
-        )?;
+        assert!(rt;
+            pass::<Count>(&mut four, &mut column, b"((..).") == Err(Refusal::WrongPlanLength)
+        );
+        assert!(rt; pass::<Count>(&mut four, &mut column, b"((..)x)") == Err(Refusal::NotAPlan(5)));
         assert!(rt; four == [1, 2, 3, 4]);
         assert!(rt; column == [9; 4]);
-        Ok(())
     }
 
     // One byte of a plan with four dots exchanged for another, and how far the text begins a plan.
@@ -117,11 +84,11 @@ mod tests {
     ];
 
     #[test]
-    fn texts_that_are_no_plans(rt: HostRuntime) -> Result<(), Fail> {
+    fn texts_that_are_no_plans(rt: HostRuntime) {
         for &(text, place) in &DAMAGED {
-            refused(&rt, read_plan(text, 4), Refusal::NotAPlan(place))?;
+            assert!(rt; read_plan(text, 4) == Err(Refusal::NotAPlan(place)));
         }
-        refused(&rt, read_plan(b"((..)(..)", 4), Refusal::WrongPlanLength)
+        assert!(rt; read_plan(b"((..)(..)", 4) == Err(Refusal::WrongPlanLength));
     }
 
     // As many slots as there may be, added by halves.
@@ -131,10 +98,8 @@ mod tests {
         let mut column = [9; 4096];
         let mut plan = [b'x'; 12283];
         write_halving(&mut plan, 4095);
-        match pass::<Count>(&mut slots, &mut column, &plan) {
-            Ok(()) => assert!(rt; slots[0] == 4096),
-            Err(_) => assert!(rt; false),
-        }
+        assert!(rt; pass::<Count>(&mut slots, &mut column, &plan) == Ok(()));
+        assert!(rt; slots[0] == 4096);
         for &rest in &slots[1..] {
             assert!(rt; rest == 0);
         }
@@ -150,22 +115,16 @@ mod tests {
     ) {
         let mut column = [9; 4];
         let mut settings = Settings::new();
-        match settings.set_budget(budget) {
-            Ok(()) => {}
-            Err(_) => assert!(rt; false),
-        }
-        match settle::<K>(slots, &mut column, b"((..).)", &settings) {
-            Ok(settled) => {
-                assert!(rt; settled.passes == passes);
-                assert!(rt; settled.by == by);
-                match (settled.outcome, outcome) {
-                    (Ok(p), Ok(q)) => assert!(rt; p == q),
-                    (Err(why), Err(other)) => assert!(rt; why == other),
-                    _ => assert!(rt; false),
-                }
-            }
-            Err(_) => assert!(rt; false),
-        }
+        assert!(rt; settings.set_budget(budget) == Ok(()));
+        let answer = settle::<K>(slots, &mut column, b"((..).)", &settings);
+        assert!(rt;
+            answer
+                == Ok(Settled {
+                    outcome,
+                    passes,
+                    by
+                })
+        );
         assert!(rt; column == [0; 4]);
     }
 
@@ -191,12 +150,11 @@ mod tests {
     }
 
     #[test]
-    fn budgets(rt: HostRuntime) -> Result<(), Fail> {
+    fn budgets(rt: HostRuntime) {
         let mut settings = Settings::new();
         assert!(rt; settings.budget() == 8);
-        refused(&rt, settings.set_budget(9), Refusal::BudgetTooLarge)?;
+        assert!(rt; settings.set_budget(9) == Err(Refusal::BudgetTooLarge));
         assert!(rt; settings.budget() == 8);
-        Ok(())
     }
 
     // Litres.
@@ -331,51 +289,38 @@ mod tests {
     ];
 
     fn mixed(hash: u64, words: &[u64]) -> u64 {
-        let mut h = hash;
-        for &word in words {
-            h = (h ^ word).wrapping_mul(0x100_0000_01B3);
-        }
-        h
+        words
+            .iter()
+            .fold(hash, |h, &word| (h ^ word).wrapping_mul(0x100_0000_01B3))
     }
 
-    fn passed<K: Kind>(
-        rt: &impl Abort,
-        slots: &mut [u64],
-        plan: &[u8],
-        hash: u64,
-    ) -> Result<u64, Fail> {
+    fn passed<K: Kind>(rt: &impl Abort, slots: &mut [u64], plan: &[u8], hash: u64) -> u64 {
         let mut column = [0; 6];
-        match pass::<K>(slots, &mut column, plan) {
-            Ok(()) => Ok(mixed(hash, slots)),
-            Err(_) => {
-                assert!(rt; false);
-                Ok(hash)
-            }
-        }
+        assert!(rt; pass::<K>(slots, &mut column, plan) == Ok(()));
+        mixed(hash, slots)
     }
 
     #[test]
-    fn every_plan_of_five_dots(rt: HostRuntime) -> Result<(), Fail> {
+    fn every_plan_of_five_dots(rt: HostRuntime) {
         for &(plan, slots, expected) in &PLANS {
             let count = slots.min(6);
             let mut hash = 0xCBF2_9CE4_8422_2325;
             for set in &COUNTS {
                 let mut numbers = *set;
-                hash = passed::<Count>(&rt, &mut numbers[..count], plan, hash)?;
+                hash = passed::<Count>(&rt, &mut numbers[..count], plan, hash);
             }
             for set in &METRES {
                 let mut numbers = *set;
-                hash = passed::<Binary64>(&rt, &mut numbers[..count], plan, hash)?;
+                hash = passed::<Binary64>(&rt, &mut numbers[..count], plan, hash);
             }
             assert!(rt; hash == expected);
         }
-        Ok(())
     }
 
     // Brackets as deep as they can be: 4,094 open, and each closes behind one more dot.
     fn write_comb(text: &mut [u8]) {
-        for i in 0..text.len() {
-            text[i] = if i < 4094 {
+        for (i, byte) in text.iter_mut().enumerate() {
+            *byte = if i < 4094 {
                 b'('
             } else if i == 4094 || i % 2 == 1 {
                 b'.'
@@ -386,20 +331,12 @@ mod tests {
     }
 
     #[test]
-    fn the_deepest_pass(rt: HostRuntime) -> Result<(), Fail> {
+    fn the_deepest_pass(rt: HostRuntime) {
         let mut slots = [1; 4096];
         let mut column = [9; 4096];
         let mut comb = [b'x'; 12283];
         write_comb(&mut comb);
-        match pass::<Count>(&mut slots, &mut column, &comb) {
-            Ok(()) => {
-                assert!(rt; slots[0] == 4096);
-                Ok(())
-            },
-            Err(_) => {
-                assert!(rt; false);
-                Ok(())
-            },
-        }
+        assert!(rt; pass::<Count>(&mut slots, &mut column, &comb) == Ok(()));
+        assert!(rt; slots[0] == 4096);
     }
 }
