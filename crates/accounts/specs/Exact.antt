@@ -20,10 +20,9 @@ pub record Entered (w : ℤ) (before after : RegisterAccount) : Type 0 where
   pub sum : after.sum ≡ register_of (value before.sum +ℤ w)
   pub count : after.count ≡ before.count + 1
 
--- the register account as an account of a kind; what the trait calls sound asks nothing more than its type does
+-- the register account as an account of a kind
 abbrev pub exact : {K : Type 0} → kind.Ghosts K → Ghosts RegisterAccount K (Unit {0})
 exact k = record {
-  sound = λ _. Unit {0};
   meaning = exact_meaning;
   agreed = λ _. 4294967295;
   opens = λ _ a. Blank a;

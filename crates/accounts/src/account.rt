@@ -4,13 +4,11 @@ ghost use Rattle.accounts.specs.Meaning.{Meaning, fresh, entry_answer, after_pos
 use kinds::kind::Kind;
 use refusals::Refusal;
 
-/// An account of a kind of number. It means a total, a number of entries and a limit; in every state that it calls sound, its calls are told by the meaning alone.
+/// An account of a kind of number. It means a total, a number of entries and a limit, and its calls are told by the meaning alone; what else keeps it sound its type says.
 /// What it promises beyond the meaning it says by `opens`, `enters` and `reads`: what a fresh account is, what one granted entry makes of an account, and what a reading leaves of it.
 pub trait Account<K: Kind>: Sized {
     /// What a fresh account is told.
     type Setup: Drop;
-
-    ghost sound: { Self → Type 0 };
 
     ghost meaning: { Self → Meaning };
 
@@ -25,43 +23,34 @@ pub trait Account<K: Kind>: Sized {
 
     /// A fresh account, with nothing in it.
     fn open(setup: Self::Setup) -> Self
-        ensures sound { sound result }
         ensures fresh { meaning result ≡ fresh (agreed setup) }
         ensures opened { opens setup result };
 
     /// Adds the number's worth to the total and 1 to the entries.
     fn post(&mut self, p: u64) -> Result<(), Refusal>
-        requires { sound self.old }
-        ensures sound { sound self.new }
         ensures answer { result ≡ entry_answer K.Kind p (meaning self.old) }
         ensures after { meaning self.new ≡ after_post K.Kind p (meaning self.old) }
         ensures leaves { Leaves (enters self.old p) self.old self.new result };
 
     /// Takes the number's worth from the total and adds 1 to the entries: the number is accepted as its opposite.
     fn withdraw(&mut self, p: u64) -> Result<(), Refusal>
-        requires { sound self.old }
-        ensures sound { sound self.new }
         ensures answer { result ≡ entry_answer K.Kind p (meaning self.old) }
         ensures after { meaning self.new ≡ after_withdraw K.Kind p (meaning self.old) }
         ensures leaves { Leaves (enters self.old (K.Kind.opposite p)) self.old self.new result };
 
     /// The outcome of the total.
     fn read(&mut self) -> Result<u64, Refusal>
-        requires { sound self.old }
-        ensures sound { sound self.new }
         ensures answer { result ≡ read_answer K.Kind (meaning self.old) }
         ensures after { meaning self.new ≡ meaning self.old }
         ensures leaves { reads self.old self.new };
 
     /// How many entries were accepted.
     fn entries(&self) -> u32
-        requires { sound self.now }
         ensures { result ≡ (meaning self.now).entries };
 
     /// How many entries are accepted at most.
     fn limit(&self) -> u32
-        requires { sound self.now }
         ensures { result ≡ (meaning self.now).limit };
 
-    ghost limited: { (s : Self) → sound s → ((meaning s).limit < 2 ^ 32) × ((meaning s).entries ≤ (meaning s).limit) };
+    ghost limited: { (s : Self) → ((meaning s).limit < 2 ^ 32) × ((meaning s).entries ≤ (meaning s).limit) };
 }

@@ -16,9 +16,7 @@ pub enum Entry {
 
 // Asks for one entry; a refused one leaves the account as it is.
 fn enter<K: Kind, A: Account<K>>(account: &mut A, entry: Entry)
-    requires { A.Account.sound account.old }
-    ensures sound { A.Account.sound account.new }
-    ensures follows { (most : ℕ) (ws : List ℤ) → A.Account.meaning account.old ≡ meant most ws → A.Account.meaning account.new ≡ meant most (entered_by K.Kind most ws entry) }
+    ensures { (most : ℕ) (ws : List ℤ) → A.Account.meaning account.old ≡ meant most ws → A.Account.meaning account.new ≡ meant most (entered_by K.Kind most ws entry) }
 {
     let _ = match entry {
         Entry::Post(p) => account.post(p),

@@ -1,7 +1,6 @@
 //! The register account's calls.
-ghost use Rattle.std.specs.Prelude.{◌≡◌, OnErr};
-ghost use Rattle.accounts.specs.Meaning.{entry_answer, after_post, after_withdraw, read_answer, Leaves};
-ghost use Rattle.accounts.specs.Exact.{exact, exact_meaning, Entered};
+ghost use Rattle.std.specs.Prelude.{◌≡◌};
+ghost use Rattle.accounts.specs.Exact.{exact};
 ghost use Rattle.std.proofs.Common.{rules};
 
 use crate::account::Account;
@@ -23,8 +22,6 @@ impl RegisterAccount {
 impl<K: Kind> Account<K> for RegisterAccount {
     type Setup = ();
 
-    ghost sound = { (exact K.Kind).sound };
-
     ghost meaning = { (exact K.Kind).meaning };
 
     ghost agreed = { (exact K.Kind).agreed };
@@ -41,37 +38,19 @@ impl<K: Kind> Account<K> for RegisterAccount {
         RegisterAccount::balanced(0)
     }
 
-    fn post(&mut self, p: u64) -> Result<(), Refusal>
-        ensures sound { Unit {0} }
-        ensures answer { result ≡ entry_answer K.Kind p (exact_meaning self.old) }
-        ensures after { exact_meaning self.new ≡ after_post K.Kind p (exact_meaning self.old) }
-        ensures leaves { Leaves (Entered (K.Kind.worth p) self.old) self.old self.new result }
-        ensures kept { OnErr result (self.new ≡ self.old) }
-    {
+    fn post(&mut self, p: u64) -> Result<(), Refusal> {
         asked::<K>(p, self.count, u32::MAX)?;
         self.enter(K::worth(p));
         Ok(())
     }
 
-    fn withdraw(&mut self, p: u64) -> Result<(), Refusal>
-        ensures sound { Unit {0} }
-        ensures answer { result ≡ entry_answer K.Kind p (exact_meaning self.old) }
-        ensures after { exact_meaning self.new ≡ after_withdraw K.Kind p (exact_meaning self.old) }
-        ensures leaves { Leaves (Entered (K.Kind.worth (K.Kind.opposite p)) self.old) self.old self.new result }
-        ensures kept { OnErr result (self.new ≡ self.old) }
-    {
+    fn withdraw(&mut self, p: u64) -> Result<(), Refusal> {
         asked::<K>(p, self.count, u32::MAX)?;
         self.enter(K::worth(K::opposite(p)));
         Ok(())
     }
 
-    fn read(&mut self) -> Result<u64, Refusal>
-        ensures sound { Unit {0} }
-        ensures answer { result ≡ read_answer K.Kind (exact_meaning self.old) }
-        ensures after { exact_meaning self.new ≡ exact_meaning self.old }
-        ensures leaves { self.new ≡ self.old }
-        ensures kept { self.new ≡ self.old }
-    {
+    fn read(&mut self) -> Result<u64, Refusal> {
         K::outcome(&self.sum)
     }
 

@@ -9,18 +9,16 @@ use Rattle.accounts.proofs.readings.reading.Goals as goal
 
 pub loop-entry-preserved : goal.loop-entry-preserved
 loop-entry-preserved g c =
-    let most = (g.A.Account.meaning c.open-account.result).limit in (
-      c.enter.ensures.sound,
-      c.enter.ensures.follows most _ c.loop-entry.invariant.1
-          ∙ ap (meant most) (sym (fold_more (entered_by g.K.Kind most) [] c.args.entries.now c.loop-entry.entry-index _ c.loop-entry-test.true)),
-    )
+    let most = (g.A.Account.meaning c.open-account.result).limit in
+    c.enter.ensures most _ c.loop-entry.invariant
+    ∙ ap (meant most) (sym (fold_more (entered_by g.K.Kind most) [] c.args.entries.now c.loop-entry.entry-index _ c.loop-entry-test.true))
 
 pub returns : goal.returns
 returns g c =
     let k = g.K.Kind in
     let most = (g.A.Account.meaning c.open-account.result).limit in
     let all = take_all _ c.args.entries.now c.loop-entry-test.false in
-    let total = ap (λ (m : Meaning). m.total) c.loop-entry.invariant.1 in
+    let total = ap (λ (m : Meaning). m.total) c.loop-entry.invariant in
     let limit = ap (λ (m : Meaning). m.limit) c.open-account.ensures.fresh in
     record {
       exact =

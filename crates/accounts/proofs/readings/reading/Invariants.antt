@@ -5,5 +5,4 @@ use Rattle.accounts.proofs.readings.reading.Given as goal
 -- the account means what it has accepted so far
 abbrev pub invariant-loop-entry : goal.invariant-loop-entry
 invariant-loop-entry g l =
-    (g.A.Account.sound l.account)
-    × (g.A.Account.meaning l.account ≡ meant (g.A.Account.meaning l.initial.account).limit (accepted g.K.Kind (g.A.Account.meaning l.initial.account).limit (take l.entry-index l.entries)))
+    g.A.Account.meaning l.account ≡ meant (g.A.Account.meaning l.initial.account).limit (accepted g.K.Kind (g.A.Account.meaning l.initial.account).limit (take l.entry-index l.entries))
