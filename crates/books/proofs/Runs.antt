@@ -5,7 +5,6 @@ use Rattle.kinds.specs.declared.kind.Kind as kind
 use Rattle.accounts.specs.declared.account.Account.{Ghosts}
 use Rattle.books.specs.Agree.{Agrees}
 use Rattle.books.specs.Logbook.{Logbook, answer_of, after, answers_of, after_all}
-use Rattle.books.specs.Meant.{SoundLedger}
 use Rattle.books.specs.declared.blade.Blade.{Blade}
 use Rattle.books.specs.declared.ledger.Ledger.{Ledger}
 use Rattle.books.specs.declared.visit.Answer.{Answer}
@@ -23,18 +22,16 @@ module _ {K : Type 0} (k : kind.Ghosts K) where
   module _ {L R S T : Type 0} (l : Ghosts L K S) (r : Ghosts R K T) where
     -- after the visits every logbook that agreed at the start agrees still
     pub record Going (first : Ledger K L R) (start : Blade) (before : List Answer) (vs : List Visit) (x : Ledger K L R) (blade : Blade) (given : List Answer) : Type 0 where
-      pub sound : SoundLedger l r x
       pub follows : (b : Logbook) → Agrees l r first start b → (given ≡ before ++ answers_of k vs b) × Agrees l r x blade (after_all k vs b)
 
     pub going_more : {first x y : Ledger K L R} {start blade next : Blade} {before given more : List Answer} {a : Answer} (vs : List Visit) (i : ℕ) (d : Visit)
-        → i < length vs → Going first start before (take i vs) x blade given → SoundLedger l r y
+        → i < length vs → Going first start before (take i vs) x blade given
         → ((b : Logbook) → Agrees l r x blade b → (a ≡ answer_of k (get_or vs i d) b) × Agrees l r y next (after k (get_or vs i d) b)) → more ≡ given ++ a ∷ []
         → Going first start before (take (i + 1) vs) y next more
-    going_more {first} {x} {y} {start} {blade} {next} {before} {given} {more} {a} vs i d within was sound step pushed =
+    going_more {first} {x} {y} {start} {blade} {next} {before} {given} {more} {a} vs i d within was step pushed =
         let v = get_or vs i d in
         let longer : take (i + 1) vs ≡ take i vs ++ v ∷ [] = take_more vs i d within in
         record {
-          sound = sound;
           follows =
               λ b e.
               let p = was.follows b e in

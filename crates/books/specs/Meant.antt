@@ -9,10 +9,6 @@ use Rattle.books.specs.declared.visit.Side.{Side}
 use Rattle.books.specs.declared.visit.Side.TheVariants.{Left, Right}
 
 module _ {K L R S T : Type 0} (l : Ghosts L K S) (r : Ghosts R K T) where
-  pub record SoundLedger (x : Ledger K L R) : Type 0 where
-    pub left : l.sound x.left
-    pub right : r.sound x.right
-
   abbrev pub both_of : Ledger K L R → Both Meaning
   both_of x = record { left = l.meaning x.left; right = r.meaning x.right }
 

@@ -3,7 +3,7 @@ ghost use Rattle.std.specs.Prelude.{◌≡◌};
 ghost use Rattle.accounts.specs.Meaning.{fresh, entry_answer, after_post, after_withdraw, read_answer};
 ghost use Rattle.books.specs.Both.{at, on_side};
 ghost use Rattle.books.specs.Blade.{TakeAnswer, PutAnswer};
-ghost use Rattle.books.specs.Meant.{SoundLedger, both_of, LedgerOpens, EntryLeaves, ReadLeaves};
+ghost use Rattle.books.specs.Meant.{both_of, LedgerOpens, EntryLeaves, ReadLeaves};
 
 use crate::blade::{EmptyBlade, LoadedBlade};
 use crate::ledger::Ledger;
@@ -16,7 +16,6 @@ use std::marker::PhantomData;
 impl<K: Kind, L: Account<K>, R: Account<K>> Ledger<K, L, R> {
     /// A fresh ledger, with nothing in its accounts, and its empty blade.
     pub fn open(left: L::Setup, right: R::Setup) -> (Ledger<K, L, R>, EmptyBlade)
-        ensures sound { SoundLedger L.Account R.Account result.0 }
         ensures fresh { both_of L.Account R.Account result.0 ≡ record { left = fresh (L.Account.agreed left); right = fresh (R.Account.agreed right) } }
         ensures opened { LedgerOpens L.Account R.Account left right result.0 }
     {
@@ -30,8 +29,6 @@ impl<K: Kind, L: Account<K>, R: Account<K>> Ledger<K, L, R> {
 
     /// Posts a number on one side.
     pub fn post(&mut self, side: Side, p: u64) -> Result<(), Refusal>
-        requires { SoundLedger L.Account R.Account self.old }
-        ensures sound { SoundLedger L.Account R.Account self.new }
         ensures answer { result ≡ entry_answer K.Kind p (at side (both_of L.Account R.Account self.old)) }
         ensures after { both_of L.Account R.Account self.new ≡ on_side side (after_post K.Kind p) (both_of L.Account R.Account self.old) }
         ensures leaves { EntryLeaves L.Account R.Account side p self.old self.new result }
@@ -45,8 +42,6 @@ impl<K: Kind, L: Account<K>, R: Account<K>> Ledger<K, L, R> {
 
     /// Withdraws a number from one side.
     pub fn withdraw(&mut self, side: Side, p: u64) -> Result<(), Refusal>
-        requires { SoundLedger L.Account R.Account self.old }
-        ensures sound { SoundLedger L.Account R.Account self.new }
         ensures answer { result ≡ entry_answer K.Kind p (at side (both_of L.Account R.Account self.old)) }
         ensures after { both_of L.Account R.Account self.new ≡ on_side side (after_withdraw K.Kind p) (both_of L.Account R.Account self.old) }
         ensures leaves { EntryLeaves L.Account R.Account side (K.Kind.opposite p) self.old self.new result }
@@ -60,8 +55,6 @@ impl<K: Kind, L: Account<K>, R: Account<K>> Ledger<K, L, R> {
 
     /// Reads one side.
     pub fn read(&mut self, side: Side) -> Result<u64, Refusal>
-        requires { SoundLedger L.Account R.Account self.old }
-        ensures sound { SoundLedger L.Account R.Account self.new }
         ensures answer { result ≡ read_answer K.Kind (at side (both_of L.Account R.Account self.old)) }
         ensures after { both_of L.Account R.Account self.new ≡ both_of L.Account R.Account self.old }
         ensures leaves { ReadLeaves L.Account R.Account side self.old self.new }
@@ -79,8 +72,6 @@ impl<K: Kind, L: Account<K>, R: Account<K>> Ledger<K, L, R> {
         blade: EmptyBlade,
         p: u64,
     ) -> Result<LoadedBlade, (EmptyBlade, Refusal)>
-        requires { SoundLedger L.Account R.Account self.old }
-        ensures sound { SoundLedger L.Account R.Account self.new }
         ensures answer { TakeAnswer p (entry_answer K.Kind p (at side (both_of L.Account R.Account self.old))) result }
         ensures after { both_of L.Account R.Account self.new ≡ on_side side (after_withdraw K.Kind p) (both_of L.Account R.Account self.old) }
         ensures leaves { EntryLeaves L.Account R.Account side (K.Kind.opposite p) self.old self.new (entry_answer K.Kind p (at side (both_of L.Account R.Account self.old))) }
@@ -100,8 +91,6 @@ impl<K: Kind, L: Account<K>, R: Account<K>> Ledger<K, L, R> {
         side: Side,
         blade: LoadedBlade,
     ) -> Result<EmptyBlade, (LoadedBlade, Refusal)>
-        requires { SoundLedger L.Account R.Account self.old }
-        ensures sound { SoundLedger L.Account R.Account self.new }
         ensures answer { PutAnswer blade.pattern (entry_answer K.Kind blade.pattern (at side (both_of L.Account R.Account self.old))) result }
         ensures after { both_of L.Account R.Account self.new ≡ on_side side (after_post K.Kind blade.pattern) (both_of L.Account R.Account self.old) }
         ensures leaves { EntryLeaves L.Account R.Account side blade.pattern self.old self.new (entry_answer K.Kind blade.pattern (at side (both_of L.Account R.Account self.old))) }
@@ -115,7 +104,6 @@ impl<K: Kind, L: Account<K>, R: Account<K>> Ledger<K, L, R> {
 
     /// How many entries one side has accepted.
     pub fn entries(&self, side: Side) -> u32
-        requires { SoundLedger L.Account R.Account self.now }
         ensures { result ≡ (at side (both_of L.Account R.Account self.now)).entries }
     {
         match side {

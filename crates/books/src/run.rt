@@ -2,7 +2,6 @@
 ghost use Rattle.std.specs.Prelude.{◌≡◌, ◌+◌, ◌≤◌, ◌++◌, length, IfOk, vec_len, vec_capacity};
 ghost use Rattle.books.specs.Agree.{Agrees};
 ghost use Rattle.books.specs.Logbook.{Logbook, blank, answers_of, after_all};
-ghost use Rattle.books.specs.Meant.{SoundLedger};
 ghost use Rattle.books.specs.Theorem.{LedgerTheorem};
 
 use crate::blade::Blade;
@@ -16,10 +15,8 @@ use std::alloc::{AllocError, Global};
 impl<K: Kind, L: Account<K>, R: Account<K>> Ledger<K, L, R> {
     // Makes the visits one after the other. There is room for their answers.
     fn visit_all(&mut self, blade: Blade, visits: &[Visit], answers: &mut Vec<Answer>) -> Blade
-        requires sound { SoundLedger L.Account R.Account self.old }
         requires room { vec_len answers.old + length visits.now ≤ vec_capacity answers.old }
-        ensures sound { SoundLedger L.Account R.Account self.new }
-        ensures follows { (b : Logbook) → Agrees L.Account R.Account self.old blade b → (answers.new.items ≡ answers.old.items ++ answers_of K.Kind visits.now b) × Agrees L.Account R.Account self.new result (after_all K.Kind visits.now b) }
+        ensures { (b : Logbook) → Agrees L.Account R.Account self.old blade b → (answers.new.items ≡ answers.old.items ++ answers_of K.Kind visits.now b) × Agrees L.Account R.Account self.new result (after_all K.Kind visits.now b) }
     {
         let mut blade = blade;
         for v in visits {
@@ -37,7 +34,6 @@ impl<K: Kind, L: Account<K>, R: Account<K>> Ledger<K, L, R> {
         right: R::Setup,
         visits: &[Visit],
     ) -> Result<Finished<K, L, R>, AllocError>
-        ensures sound { IfOk result (λ f. SoundLedger L.Account R.Account f.ledger) }
         ensures agrees { IfOk result (λ f. Agrees L.Account R.Account f.ledger f.blade (after_all K.Kind visits.now (blank (L.Account.agreed left) (R.Account.agreed right)))) }
         ensures theorem { IfOk result (λ f. LedgerTheorem K.Kind L.Account R.Account (blank (L.Account.agreed left) (R.Account.agreed right)) visits.now f.ledger f.blade f.answers.items) }
     {
@@ -59,7 +55,6 @@ pub fn run<K: Kind, L: Account<K>, R: Account<K>>(
     right: R::Setup,
     visits: &[Visit],
 ) -> Result<Finished<K, L, R>, AllocError>
-    ensures sound { IfOk result (λ f. SoundLedger L.Account R.Account f.ledger) }
     ensures agrees { IfOk result (λ f. Agrees L.Account R.Account f.ledger f.blade (after_all K.Kind visits.now (blank (L.Account.agreed left) (R.Account.agreed right)))) }
     ensures theorem { IfOk result (λ f. LedgerTheorem K.Kind L.Account R.Account (blank (L.Account.agreed left) (R.Account.agreed right)) visits.now f.ledger f.blade f.answers.items) }
 {

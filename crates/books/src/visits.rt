@@ -1,6 +1,5 @@
 //! Visits: calls that come as data.
 ghost use Rattle.std.specs.Prelude.{◌≡◌};
-ghost use Rattle.books.specs.Meant.{SoundLedger};
 ghost use Rattle.books.specs.Logbook.{Logbook, number_or, answer_by, answer_of, after};
 ghost use Rattle.books.specs.Agree.{Agrees, load_of};
 ghost use Rattle.books.specs.Leaves.{VisitLeaves};
@@ -34,8 +33,6 @@ fn number_or(r: Result<u64, Refusal>) -> Answer
 impl<K: Kind, L: Account<K>, R: Account<K>> Ledger<K, L, R> {
     /// Makes one visit. Whatever logbook the ledger and the blade agree with tells the answer, and they agree with it after the visit.
     pub fn visit(&mut self, blade: Blade, v: Visit) -> (Blade, Answer)
-        requires { SoundLedger L.Account R.Account self.old }
-        ensures sound { SoundLedger L.Account R.Account self.new }
         ensures leaves { VisitLeaves K.Kind L.Account R.Account v (load_of blade) self.old self.new }
         ensures follows { (b : Logbook) → Agrees L.Account R.Account self.old blade b → (result.1 ≡ answer_of K.Kind v b) × Agrees L.Account R.Account self.new result.0 (after K.Kind v b) }
     {
@@ -44,8 +41,6 @@ impl<K: Kind, L: Account<K>, R: Account<K>> Ledger<K, L, R> {
 
     // The call that a visit asks for. Take, put and write off ask first what the blade carries.
     fn call(&mut self, blade: Blade, v: Visit) -> (Blade, Answer)
-        requires { SoundLedger L.Account R.Account self.old }
-        ensures sound { SoundLedger L.Account R.Account self.new }
         ensures leaves { VisitLeaves K.Kind L.Account R.Account v (load_of blade) self.old self.new }
         ensures follows { (b : Logbook) → Agrees L.Account R.Account self.old blade b → (result.1 ≡ answer_of K.Kind v b) × Agrees L.Account R.Account self.new result.0 (after K.Kind v b) }
     {

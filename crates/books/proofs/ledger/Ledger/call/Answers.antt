@@ -13,7 +13,6 @@ returns-in-Post g c =
     let told = c.done_or.ensures ∙ ap (λ (r : Result (Unit {0}) Refusal). answer_by r Done) e.answer in
     let load = load_of c.args.blade in
     record {
-      sound = e.sound;
       leaves =
           by_visit g.K.Kind g.L.Account g.R.Account _ _ _ (Post c.in-Post.side c.in-Post.p) load load c.in-Post.is refl
           (by_answer g.K.Kind g.L.Account g.R.Account _ _ _ _ _ _ e.answer e.leaves);
@@ -26,7 +25,6 @@ returns-in-Withdraw g c =
     let told = c.done_or-in-Withdraw.ensures ∙ ap (λ (r : Result (Unit {0}) Refusal). answer_by r Done) e.answer in
     let load = load_of c.args.blade in
     record {
-      sound = e.sound;
       leaves =
           by_visit g.K.Kind g.L.Account g.R.Account _ _ _ (Withdraw c.in-Withdraw.side c.in-Withdraw.p) load load c.in-Withdraw.is refl
           (by_answer g.K.Kind g.L.Account g.R.Account _ _ _ _ _ _ e.answer e.leaves);
@@ -37,7 +35,6 @@ pub returns-in-Ok : goal.returns-in-Ok
 returns-in-Ok g c =
     let e = c.take.ensures in
     record {
-      sound = e.sound;
       leaves = by_visit g.K.Kind g.L.Account g.R.Account _ _ _ (Take c.in-Take.side c.in-Take.p) _ _ c.in-Take.is (ap load_of c.in-Empty.is) e.leaves;
       follows = λ b a. taken g.K.Kind _ b _ _ _ _ _ _ c.in-Take.is (ap load_of c.in-Empty.is) c.in-Ok.ensures.answer e.after a;
     }
@@ -46,7 +43,6 @@ pub returns-in-Ok-put : goal.returns-in-Ok-put
 returns-in-Ok-put g c =
     let e = c.put.ensures in
     record {
-      sound = e.sound;
       leaves = by_visit g.K.Kind g.L.Account g.R.Account _ _ _ (Put c.in-Put.side) _ _ c.in-Put.is (ap load_of c.in-Loaded-blade.is) e.leaves;
       follows = λ b a. put_down g.K.Kind _ b _ _ _ _ _ c.in-Put.is (ap load_of c.in-Loaded-blade.is) c.in-Ok-put.ensures.answer e.after a;
     }

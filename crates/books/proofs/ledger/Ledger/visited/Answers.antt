@@ -10,10 +10,9 @@ returns g c =
     let m = g.L.Account.agreed c.args.left in
     let n = g.R.Account.agreed c.args.right in
     let vs = c.args.visits.now in
-    let end = c.visit_all-blade.ensures.follows (blank m n) (fresh_agrees m n _ c.open-ledger.ensures.fresh) in
+    let end = c.visit_all-blade.ensures (blank m n) (fresh_agrees m n _ c.open-ledger.ensures.fresh) in
     let none = c.in_ok-answers.ensures.items in
     record {
-      sound = c.visit_all-blade.ensures.sound;
       agrees = end.1;
       theorem =
           theorem g.K.Kind g.met.K.Kind.lawful g.L.Account g.R.Account m n vs _ _ _
