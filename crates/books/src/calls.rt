@@ -13,6 +13,7 @@ use kinds::kind::Kind;
 use refusals::Refusal;
 use std::marker::PhantomData;
 
+// A match on the side in each call: the accounts are of two types, and `Account` is not made for `dyn`.
 impl<K: Kind, L: Account<K>, R: Account<K>> Ledger<K, L, R> {
     /// A fresh ledger, with nothing in its accounts, and its empty blade.
     pub fn open(left: L::Setup, right: R::Setup) -> (Ledger<K, L, R>, EmptyBlade)
@@ -34,10 +35,9 @@ impl<K: Kind, L: Account<K>, R: Account<K>> Ledger<K, L, R> {
         ensures leaves { EntryLeaves L.Account R.Account side p self.old self.new result }
     {
         match side {
-            Side::Left => self.left.post(p)?,
-            Side::Right => self.right.post(p)?,
+            Side::Left => self.left.post(p),
+            Side::Right => self.right.post(p),
         }
-        Ok(())
     }
 
     /// Withdraws a number from one side.
@@ -47,10 +47,9 @@ impl<K: Kind, L: Account<K>, R: Account<K>> Ledger<K, L, R> {
         ensures leaves { EntryLeaves L.Account R.Account side (K.Kind.opposite p) self.old self.new result }
     {
         match side {
-            Side::Left => self.left.withdraw(p)?,
-            Side::Right => self.right.withdraw(p)?,
+            Side::Left => self.left.withdraw(p),
+            Side::Right => self.right.withdraw(p),
         }
-        Ok(())
     }
 
     /// Reads one side.
@@ -76,13 +75,9 @@ impl<K: Kind, L: Account<K>, R: Account<K>> Ledger<K, L, R> {
         ensures after { both_of L.Account R.Account self.new ≡ on_side side (after_withdraw K.Kind p) (both_of L.Account R.Account self.old) }
         ensures leaves { EntryLeaves L.Account R.Account side (K.Kind.opposite p) self.old self.new (entry_answer K.Kind p (at side (both_of L.Account R.Account self.old))) }
     {
-        match self.withdraw(side, p) {
-            Ok(()) => {
-                let EmptyBlade { mark: _ } = blade;
-                Ok(LoadedBlade { pattern: p })
-            }
-            Err(why) => Err((blade, why)),
-        }
+        self.withdraw(side, p)
+            .map(|()| LoadedBlade { pattern: p })
+            .map_err(|why| (blade, why))
     }
 
     /// Posts the load on one side.
@@ -96,10 +91,9 @@ impl<K: Kind, L: Account<K>, R: Account<K>> Ledger<K, L, R> {
         ensures leaves { EntryLeaves L.Account R.Account side blade.pattern self.old self.new (entry_answer K.Kind blade.pattern (at side (both_of L.Account R.Account self.old))) }
     {
         let LoadedBlade { pattern } = blade;
-        match self.post(side, pattern) {
-            Ok(()) => Ok(EmptyBlade { mark: () }),
-            Err(why) => Err((LoadedBlade { pattern }, why)),
-        }
+        self.post(side, pattern)
+            .map(|()| EmptyBlade { mark: () })
+            .map_err(|why| (LoadedBlade { pattern }, why))
     }
 
     /// How many entries one side has accepted.
