@@ -1,12 +1,14 @@
 -- The logbook conserves: both sums and the load are worth what was posted less what was withdrawn or written off.
-use Rattle.std.proofs.Common.{◌≡◌, ℕ, Bool, true, false, cond, List, [], ◌∷◌, ℤ, pos, ◌+ℤ◌, neg_ℤ, is_ok, refl, ap, arith}
+use Rattle.std.proofs.Common.{◌≡◌, ℕ, true, List, [], ◌∷◌, ℤ, pos, ◌+ℤ◌, neg_ℤ, is_ok, Some, None, Option, refl, arith}
 use borrow.Author.Differences.{ints}
+use Rattle.std.proofs.lemmas.Bool.{cond_both}
 use Rattle.std.proofs.lemmas.List.Sums.{fold_push}
 use Rattle.kinds.specs.declared.kind.Kind.{Ghosts}
 use Rattle.accounts.specs.Entries.{sum_of}
-use Rattle.books.specs.Logbook.{Logbook, Load, empty, loaded, entering, load_worth, Conserved, accepts, take_asks, asks, writes, after, after_all}
+use Rattle.books.specs.Logbook.{Logbook, replied, entering, load_worth, Conserved, take_asks, answer_of, writes, after, after_all}
 use Rattle.books.specs.declared.visit.Side.{Side}
 use Rattle.books.specs.declared.visit.Side.TheVariants.{Left, Right}
+use Rattle.books.specs.declared.visit.Reply.TheVariants.{Done}
 use Rattle.books.specs.declared.visit.Visit.{Visit}
 use Rattle.books.specs.declared.visit.Visit.TheVariants.{Post, Withdraw, Take, Put, WriteOff, Read}
 
@@ -19,29 +21,24 @@ entry Left w b = let e = fold_push ◌+ℤ◌ (pos 0) b.lists.left w in omega (a
 entry Right w b = let e = fold_push ◌+ℤ◌ (pos 0) b.lists.right w in omega (arith, ints)
 
 module _ {K : Type 0} (k : Ghosts K) where
-  chosen : (t : Bool) (c b : Logbook) → Conserved k c → Conserved k b → Conserved k (cond t c b)
-  chosen true c b p q = p
-  chosen false c b p q = q
-
   -- a take is granted only with an empty blade
-  take_balance : (s : Side) (p : ℕ) (b : Logbook) (x : Load) → b.load ≡ x → Conserved k b → Conserved k (cond (is_ok (take_asks k s p b x)) (writes k (Take s p) b) b)
-  take_balance s p b empty was h =
-      let e = entry s (neg_ℤ (k.worth p)) b in
-      let z = ap (load_worth k) was in
-      chosen (is_ok (accepts k s p b)) (writes k (Take s p) b) b (omega (arith, ints)) h
-  take_balance s p b (loaded q) was h = h
+  taken_unloaded : (s : Side) (p : ℕ) (b : Logbook) (load : Option ℕ) → is_ok (replied (λ _. Done) (take_asks k s p b load)) ≡ true → load_worth k load ≡ pos 0
+  taken_unloaded s p b None granted = refl
+  taken_unloaded s p b (Some q) granted = cc
 
-  pub step_balance : (v : Visit) (b : Logbook) → Conserved k b → Conserved k (after k v b)
-  step_balance (Post s p) b h =
-      let e = entry s (k.worth p) b in chosen (is_ok (asks k (Post s p) b)) (writes k (Post s p) b) b (omega (arith, ints)) h
-  step_balance (Withdraw s p) b h =
-      let e = entry s (neg_ℤ (k.worth p)) b in chosen (is_ok (asks k (Withdraw s p) b)) (writes k (Withdraw s p) b) b (omega (arith, ints)) h
-  step_balance (Take s p) b h = take_balance s p b b.load refl h
-  step_balance (Put s) b h =
-      let e = entry s (load_worth k b.load) b in chosen (is_ok (asks k (Put s) b)) (writes k (Put s) b) b (omega (arith, ints)) h
-  step_balance WriteOff b h = chosen (is_ok (asks k WriteOff b)) (writes k WriteOff b) b (omega (arith, ints)) h
-  step_balance (Read s) b h = chosen (is_ok (asks k (Read s) b)) b b h h
+  granted_balance : (v : Visit) (b : Logbook) → Conserved k b → is_ok (answer_of k v b) ≡ true → Conserved k (writes k v b)
+  unfolding answer_of
+  granted_balance (Post s p) b h granted = let e = entry s (k.worth p) b in omega (arith, ints)
+  granted_balance (Withdraw s p) b h granted = let e = entry s (neg_ℤ (k.worth p)) b in omega (arith, ints)
+  granted_balance (Take s p) b h granted =
+      let e = entry s (neg_ℤ (k.worth p)) b in
+      let z = taken_unloaded s p b b.load granted in
+      omega (arith, ints)
+  granted_balance (Put s) b h granted = let e = entry s (load_worth k b.load) b in omega (arith, ints)
+  granted_balance WriteOff b h granted = omega (arith, ints)
+  granted_balance (Read s) b h granted = h
 
   pub all_balance : (vs : List Visit) (b : Logbook) → Conserved k b → Conserved k (after_all k vs b)
+  unfolding after
   all_balance [] b h = h
-  all_balance (v ∷ vs) b h = all_balance vs (after k v b) (step_balance v b h)
+  all_balance (v ∷ vs) b h = all_balance vs (after k v b) (cond_both (is_ok (answer_of k v b)) (writes k v b) b (Conserved k) (granted_balance v b h) (λ _. h))

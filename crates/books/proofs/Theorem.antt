@@ -1,5 +1,5 @@
 -- The theorem of the ledger, from a ledger that agrees with its logbook behind the visits.
-use Rattle.std.proofs.Common.{◌≡◌, ℕ, List, [], ◌∷◌, ◌++◌, length, ℤ, ◌+ℤ◌, Ok, Err, Result, refl, ap, ◌∙◌, arith}
+use Rattle.std.proofs.Common.{◌≡◌, ℕ, List, ◌∷◌, ◌++◌, length, ℤ, ◌+ℤ◌, Ok, Result, refl, ap, ◌∙◌}
 use Rattle.refusals.specs.declared.Refusal.{Refusal}
 use Rattle.numbers.specs.Lawful.{Lawful}
 use Rattle.kinds.specs.declared.kind.Kind as kind
@@ -16,39 +16,28 @@ use Rattle.accounts.proofs.Entries.{any_order_lem}
 use Rattle.books.specs.Both.{at}
 use Rattle.books.specs.Meant.{both_of}
 use Rattle.books.specs.Agree.{Agrees}
-use Rattle.books.specs.Logbook.{Logbook, blank, load_worth, number_or, readable, answer_by, reading, after, answers_of, after_all}
+use Rattle.books.specs.Logbook.{Logbook, blank, load_worth, answer_of, after, answers_of, after_all}
 use Rattle.books.specs.Theorem.{PassedExactly, ReadGave, LedgerTheorem}
 use Rattle.books.specs.declared.blade.Blade.{Blade}
 use Rattle.books.specs.declared.ledger.Ledger.{Ledger}
 use Rattle.books.specs.declared.visit.Side.{Side}
 use Rattle.books.specs.declared.visit.Side.TheVariants.{Left, Right}
-use Rattle.books.specs.declared.visit.Answer.{Answer}
+use Rattle.books.specs.declared.visit.Reply.{Reply}
 use Rattle.books.specs.declared.visit.Visit.{Visit}
 use Rattle.books.specs.declared.visit.Visit.TheVariants.{Read}
 use Rattle.books.proofs.Balance.{all_balance}
-use Rattle.books.proofs.Runs.{answers_append}
+use Rattle.books.proofs.Runs.{scan_append, length_scan}
 
--- as many answers as visits
-answers_length : {K : Type 0} (k : kind.Ghosts K) (vs : List Visit) (b : Logbook) → length (answers_of k vs b) ≡ length vs
-answers_length k [] b = refl
-answers_length k (v ∷ vs) b = let e = answers_length k vs (after k v b) in omega arith
-
--- a read is answered by what its list reads
-answer_by_readable : (r : Result ℕ Refusal) → answer_by (readable r) (number_or r) ≡ number_or r
-answer_by_readable (Ok p) = refl
-answer_by_readable (Err why) = refl
-
-every_read_lem : {K : Type 0} (k : kind.Ghosts K) (start : Logbook) (vs : List Visit) (answers : List Answer) → answers ≡ answers_of k vs start
+every_read_lem : {K : Type 0} (k : kind.Ghosts K) (start : Logbook) (vs : List Visit) (answers : List (Result Reply Refusal)) → answers ≡ answers_of k vs start
     → (before after : List Visit) (s : Side) → vs ≡ before ++ (Read s ∷ after) → ReadGave k (length before) answers (sum_of (at s (after_all k before start).lists))
+unfolding answer_of
 every_read_lem k start vs answers e before later s f =
     let b = after_all k before start in
     record {
       earlier = answers_of k before start;
       later = answers_of k later (after k (Read s) b);
-      split =
-          e ∙ ap (λ (us : List Visit). answers_of k us start) f ∙ answers_append k before (Read s ∷ later) start
-          ∙ ap (λ (a : Answer). answers_of k before start ++ (a ∷ answers_of k later (after k (Read s) b))) (answer_by_readable (reading k s b));
-      there = answers_length k before start;
+      split = e ∙ ap (λ (us : List Visit). answers_of k us start) f ∙ scan_append (λ c v. after k v c) (λ c v. answer_of k v c) start before (Read s ∷ later);
+      there = length_scan (λ c v. after k v c) (λ c v. answer_of k v c) start before;
     }
 
 module _ {K : Type 0} (k : kind.Ghosts K) (l : Lawful k.number k.worth k.opposite k.adder k.outcome) where
@@ -63,7 +52,7 @@ module _ {K : Type 0} (k : kind.Ghosts K) (l : Lawful k.number k.worth k.opposit
       }
 
   module _ {L R S T : Type 0} (a : Ghosts L K S) (c : Ghosts R K T) where
-    pub theorem : (m n : ℕ) (vs : List Visit) (x : Ledger K L R) (blade : Blade) (answers : List Answer)
+    pub theorem : (m n : ℕ) (vs : List Visit) (x : Ledger K L R) (blade : Blade) (answers : List (Result Reply Refusal))
         → answers ≡ answers_of k vs (blank m n) → Agrees a c x blade (after_all k vs (blank m n)) → LedgerTheorem k a c (blank m n) vs x blade answers
     theorem m n vs x blade answers e g =
         let b = after_all k vs (blank m n) in

@@ -1,10 +1,9 @@
 -- What a visit leaves in the accounts: what the call leaves that it asks for, and every word as it was where the blade says no.
-use Rattle.std.specs.Prelude.{◌≡◌, ℕ}
+use Rattle.std.specs.Prelude.{◌≡◌, ℕ, Some, None, Option}
 use Rattle.kinds.specs.declared.kind.Kind as kind
 use Rattle.accounts.specs.Meaning.{entry_answer}
 use Rattle.accounts.specs.declared.account.Account.{Ghosts}
 use Rattle.books.specs.Both.{at}
-use Rattle.books.specs.Logbook.{Load, empty, loaded}
 use Rattle.books.specs.Meant.{both_of, EntryLeaves, ReadLeaves}
 use Rattle.books.specs.declared.ledger.Ledger.{Ledger}
 use Rattle.books.specs.declared.visit.Side.{Side}
@@ -16,15 +15,15 @@ module _ {K L R S T : Type 0} (k : kind.Ghosts K) (l : Ghosts L K S) (r : Ghosts
   abbrev pub Asked : Side → ℕ → ℕ → Ledger K L R → Ledger K L R → Type 0
   Asked s p q x y = EntryLeaves l r s q x y (entry_answer k p (at s (both_of l r x)))
 
-  abbrev pub TakeLeaves : Side → ℕ → Load → Ledger K L R → Ledger K L R → Type 0
-  TakeLeaves s p empty x y = Asked s p (k.opposite p) x y
-  TakeLeaves s p (loaded q) x y = y ≡ x
+  abbrev pub TakeLeaves : Side → ℕ → Option ℕ → Ledger K L R → Ledger K L R → Type 0
+  TakeLeaves s p None x y = Asked s p (k.opposite p) x y
+  TakeLeaves s p (Some q) x y = y ≡ x
 
-  abbrev pub PutLeaves : Side → Load → Ledger K L R → Ledger K L R → Type 0
-  PutLeaves s empty x y = y ≡ x
-  PutLeaves s (loaded p) x y = Asked s p p x y
+  abbrev pub PutLeaves : Side → Option ℕ → Ledger K L R → Ledger K L R → Type 0
+  PutLeaves s None x y = y ≡ x
+  PutLeaves s (Some p) x y = Asked s p p x y
 
-  abbrev pub VisitLeaves : Visit → Load → Ledger K L R → Ledger K L R → Type 0
+  abbrev pub VisitLeaves : Visit → Option ℕ → Ledger K L R → Ledger K L R → Type 0
   VisitLeaves (Post s p) load x y = Asked s p p x y
   VisitLeaves (Withdraw s p) load x y = Asked s p (k.opposite p) x y
   VisitLeaves (Take s p) load x y = TakeLeaves s p load x y

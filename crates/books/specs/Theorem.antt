@@ -17,12 +17,13 @@ use Rattle.accounts.specs.declared.account.Account.{Ghosts}
 use Rattle.books.specs.Both.{at}
 use Rattle.books.specs.Meant.{both_of}
 use Rattle.books.specs.Agree.{load_of}
-use Rattle.books.specs.Logbook.{Logbook, load_worth, number_or, answers_of, after_all}
+use Rattle.books.specs.Logbook.{Logbook, load_worth, replied, answers_of, after_all}
 use Rattle.books.specs.declared.blade.Blade.{Blade}
 use Rattle.books.specs.declared.ledger.Ledger.{Ledger}
 use Rattle.books.specs.declared.visit.Side.{Side}
 use Rattle.books.specs.declared.visit.Side.TheVariants.{Left, Right}
-use Rattle.books.specs.declared.visit.Answer.{Answer}
+use Rattle.books.specs.declared.visit.Reply.{Reply}
+use Rattle.books.specs.declared.visit.Reply.TheVariants.{Number}
 use Rattle.books.specs.declared.visit.Visit.{Visit}
 use Rattle.books.specs.declared.visit.Visit.TheVariants.{Read}
 
@@ -34,15 +35,15 @@ pub record PassedExactly {K : Type 0} (k : kind.Ghosts K) (plan slots after : Li
   pub sum : exact_sum k after ≡ exact_sum k slots
 
 -- the read at this place of the visits was answered by the outcome of v
-pub record ReadGave {K : Type 0} (k : kind.Ghosts K) (place : ℕ) (answers : List Answer) (v : ℤ) : Type 0 where
-  pub earlier : List Answer
-  pub later : List Answer
-  pub split : answers ≡ earlier ++ (number_or (answered (k.outcome v)) ∷ later)
+pub record ReadGave {K : Type 0} (k : kind.Ghosts K) (place : ℕ) (answers : List (Result Reply Refusal)) (v : ℤ) : Type 0 where
+  pub earlier : List (Result Reply Refusal)
+  pub later : List (Result Reply Refusal)
+  pub split : answers ≡ earlier ++ (replied Number (answered (k.outcome v)) ∷ later)
   pub there : length earlier ≡ place
 
 module _ {K L R S T : Type 0} (k : kind.Ghosts K) (l : Ghosts L K S) (r : Ghosts R K T) where
   -- the ledger, the blade and the answers behind the visits, beside the logbook that was told both limits and then the same visits
-  pub record LedgerTheorem (start : Logbook) (visits : List Visit) (ledger : Ledger K L R) (blade : Blade) (answers : List Answer) : Type 0 where
+  pub record LedgerTheorem (start : Logbook) (visits : List Visit) (ledger : Ledger K L R) (blade : Blade) (answers : List (Result Reply Refusal)) : Type 0 where
     -- the logbook gives the same answers: refusals with their number and place, write offs and all others
     pub same_answers : answers ≡ answers_of k visits start
     -- each account's total and entries are the sum and the length of its list

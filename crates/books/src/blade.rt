@@ -10,6 +10,7 @@ pub struct LoadedBlade {
 }
 
 /// A blade whose state is asked about, for calls that come as data.
+// No `Either`: its variants would not say which blade is loaded.
 pub enum Blade {
     Empty(EmptyBlade),
     Loaded(LoadedBlade),

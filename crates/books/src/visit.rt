@@ -1,5 +1,4 @@
-//! What is asked of a ledger, and what it answers.
-use refusals::Refusal;
+//! What is asked of a ledger, and what it answers where it grants that.
 
 /// The side of a ledger: the left or the right piste.
 #[derive(Clone, Copy)]
@@ -19,11 +18,10 @@ pub enum Visit {
     Read(Side),
 }
 
-/// What a visit is answered: that it is done, a number, the number that was written off, or why it is refused.
+/// What a granted visit is answered: that it is done, a number, or the number that was written off.
 #[derive(Clone, Copy)]
-pub enum Answer {
+pub enum Reply {
     Done,
     Number(u64),
     Off(u64),
-    Refused(Refusal),
 }
