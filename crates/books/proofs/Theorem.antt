@@ -26,7 +26,7 @@ use Rattle.books.specs.declared.visit.Reply.{Reply}
 use Rattle.books.specs.declared.visit.Visit.{Visit}
 use Rattle.books.specs.declared.visit.Visit.TheVariants.{Read}
 use Rattle.books.proofs.Balance.{all_balance}
-use Rattle.books.proofs.Runs.{scan_append, length_scan}
+use Rattle.books.proofs.Scans.{scan_append, length_scan}
 
 every_read_lem : {K : Type 0} (k : kind.Ghosts K) (start : Logbook) (vs : List Visit) (answers : List (Result Reply Refusal)) → answers ≡ answers_of k vs start
     → (before after : List Visit) (s : Side) → vs ≡ before ++ (Read s ∷ after) → ReadGave k (length before) answers (sum_of (at s (after_all k before start).lists))

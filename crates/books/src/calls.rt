@@ -1,9 +1,9 @@
 //! The ledger's calls.
 ghost use Rattle.std.specs.Prelude.{◌≡◌};
-ghost use Rattle.accounts.specs.Meaning.{fresh, entry_answer, after_post, after_withdraw, read_answer};
+ghost use Rattle.accounts.specs.Meaning.{fresh, after_post, after_withdraw, read_answer};
 ghost use Rattle.books.specs.Both.{at, on_side};
 ghost use Rattle.books.specs.Blade.{TakeAnswer, PutAnswer};
-ghost use Rattle.books.specs.Meant.{both_of, LedgerOpens, EntryLeaves, ReadLeaves};
+ghost use Rattle.books.specs.Meant.{both_of, side_answer, LedgerOpens, EntryLeaves, Asked, ReadLeaves};
 
 use crate::blade::{EmptyBlade, LoadedBlade};
 use crate::ledger::Ledger;
@@ -30,7 +30,7 @@ impl<K: Kind, L: Account<K>, R: Account<K>> Ledger<K, L, R> {
 
     /// Posts a number on one side.
     pub fn post(&mut self, side: Side, p: u64) -> Result<(), Refusal>
-        ensures answer { result ≡ entry_answer K.Kind p (at side (both_of L.Account R.Account self.old)) }
+        ensures answer { result ≡ side_answer K.Kind L.Account R.Account side p self.old }
         ensures after { both_of L.Account R.Account self.new ≡ on_side side (after_post K.Kind p) (both_of L.Account R.Account self.old) }
         ensures leaves { EntryLeaves L.Account R.Account side p self.old self.new result }
     {
@@ -42,7 +42,7 @@ impl<K: Kind, L: Account<K>, R: Account<K>> Ledger<K, L, R> {
 
     /// Withdraws a number from one side.
     pub fn withdraw(&mut self, side: Side, p: u64) -> Result<(), Refusal>
-        ensures answer { result ≡ entry_answer K.Kind p (at side (both_of L.Account R.Account self.old)) }
+        ensures answer { result ≡ side_answer K.Kind L.Account R.Account side p self.old }
         ensures after { both_of L.Account R.Account self.new ≡ on_side side (after_withdraw K.Kind p) (both_of L.Account R.Account self.old) }
         ensures leaves { EntryLeaves L.Account R.Account side (K.Kind.opposite p) self.old self.new result }
     {
@@ -71,9 +71,9 @@ impl<K: Kind, L: Account<K>, R: Account<K>> Ledger<K, L, R> {
         blade: EmptyBlade,
         p: u64,
     ) -> Result<LoadedBlade, (EmptyBlade, Refusal)>
-        ensures answer { TakeAnswer p (entry_answer K.Kind p (at side (both_of L.Account R.Account self.old))) result }
+        ensures answer { TakeAnswer p (side_answer K.Kind L.Account R.Account side p self.old) result }
         ensures after { both_of L.Account R.Account self.new ≡ on_side side (after_withdraw K.Kind p) (both_of L.Account R.Account self.old) }
-        ensures leaves { EntryLeaves L.Account R.Account side (K.Kind.opposite p) self.old self.new (entry_answer K.Kind p (at side (both_of L.Account R.Account self.old))) }
+        ensures leaves { Asked K.Kind L.Account R.Account side p (K.Kind.opposite p) self.old self.new }
     {
         self.withdraw(side, p)
             .map(|()| LoadedBlade { pattern: p })
@@ -86,9 +86,9 @@ impl<K: Kind, L: Account<K>, R: Account<K>> Ledger<K, L, R> {
         side: Side,
         blade: LoadedBlade,
     ) -> Result<EmptyBlade, (LoadedBlade, Refusal)>
-        ensures answer { PutAnswer blade.pattern (entry_answer K.Kind blade.pattern (at side (both_of L.Account R.Account self.old))) result }
+        ensures answer { PutAnswer blade.pattern (side_answer K.Kind L.Account R.Account side blade.pattern self.old) result }
         ensures after { both_of L.Account R.Account self.new ≡ on_side side (after_post K.Kind blade.pattern) (both_of L.Account R.Account self.old) }
-        ensures leaves { EntryLeaves L.Account R.Account side blade.pattern self.old self.new (entry_answer K.Kind blade.pattern (at side (both_of L.Account R.Account self.old))) }
+        ensures leaves { Asked K.Kind L.Account R.Account side blade.pattern blade.pattern self.old self.new }
     {
         let LoadedBlade { pattern } = blade;
         self.post(side, pattern)

@@ -13,7 +13,7 @@ use kinds::kind::Kind;
 use std::alloc::{AllocError, Global};
 
 /// Opens a ledger and makes the visits. Where there is no memory for the answers, nothing is opened.
-#[tactic(auto, using(std::proofs::lemmas::Grind::common_steps, crate::proofs::Runs::scan_append))]
+#[tactic(auto, using(std::proofs::lemmas::Grind::common_steps, crate::proofs::Scans::scan_append))]
 pub fn run<K: Kind, L: Account<K>, R: Account<K>>(
     heap: Global,
     left: L::Setup,

@@ -1,4 +1,4 @@
--- A list of visits: one more at its end.
+-- A scan over joined lists, and how many results it has.
 use Rattle.std.proofs.Common.{◌≡◌, List, [], ◌∷◌, ◌++◌, length, refl, ap, arith}
 use Rattle.std.specs.Prelude.{fold, scan}
 
