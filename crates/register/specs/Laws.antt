@@ -1,6 +1,6 @@
 -- Registers are equal where their values are, and join by addition.
 use Rattle.std.specs.Prelude.{◌≡◌, ℕ, zero, suc, ◌+◌, ◌*◌, ◌/◌, ◌%◌, ◌^◌, ◌<◌, List, [], ◌∷◌, length, ℤ, pos, ◌+ℤ◌, fold, slice_index, refl}
-use Rattle.std.proofs.Common.{sym, ap, ◌∙◌, add-one, arith}
+use Rattle.std.proofs.Common.{sym, ap, ◌∙◌, arith}
 use mathlib.Core.HLevel.{is_prop→PathP, Π_prop}
 use Rattle.std.proofs.Math.Bridge.{le_prop}
 use Rattle.std.proofs.Math.Nat.{ℕ_set}
@@ -10,7 +10,7 @@ use Rattle.register.specs.Sum.{limbs_of, register_of, zero_register, plus}
 use Rattle.register.specs.Value.{value, bits}
 use Rattle.register.specs.Wrap.{half, residue, signed_at, wrap_at, wrap}
 use Rattle.register.specs.declared.Register.{Register}
-use Rattle.register.specs.Places.{weight_more}
+use Rattle.register.specs.Places.{weight_suc}
 use Rattle.register.specs.Whole.{half_pos, whole_is, whole_lt}
 use Rattle.register.specs.Wrapping.{residue_lt, residue_signed, wrap_left, wrap_right, wrap_signed}
 
@@ -25,12 +25,11 @@ limbs_of_nat_of (x ∷ xs) small =
 nat_of_limbs_of : (n v : ℕ) → v < 2 ^ (64 * n) → nat_of (limbs_of n v) ≡ v
 nat_of_limbs_of zero v l = omega arith
 nat_of_limbs_of (suc n) v l =
-    let up : 2 ^ (64 * suc n) ≡ 2 ^ 64 * 2 ^ (64 * n) = ap (λ m. 2 ^ (64 * m)) (sym (add-one n)) ∙ weight_more n in
-    let below = rw up at l in
+    let below = rw (weight_suc n) at l in
     let rest = nat_of_limbs_of n (v / 2 ^ 64) (omega arith) in
     omega arith
 
-same : (a b : Register) → a.limbs ≡ b.limbs → a ≡ b
+pub same : (a b : Register) → a.limbs ≡ b.limbs → a ≡ b
 same a b e j = record {
   limbs = e j;
   long = is_prop→PathP (λ k. length (e k) ≡ 34) (λ k. ℕ_set _ _) a.long b.long j;

@@ -58,13 +58,6 @@ module _ (h : ℕ) (some : 0 < h) where
       let s = read a la in
       wrap_is (signed_at h a +ℤ z) r (s.0 + j) k lr (omega (arith, ints, s.1))
 
-  -- from a by way of b
-  pub wrap_via : (a b : ℕ) (y z : ℤ) → a < 2 * h → b < 2 * h → pos a +ℤ y ≡ pos b +ℤ z → wrap_at h (signed_at h a +ℤ y) ≡ wrap_at h (signed_at h b +ℤ z)
-  wrap_via a b y z la lb e =
-      let s = read a la in
-      let t = read b lb in
-      wrap_same (signed_at h a +ℤ y) (signed_at h b +ℤ z) s.0 t.0 (omega (arith, ints, s.1, t.1))
-
   pub residue_lt : (z : ℤ) → residue (2 * h) z < 2 * h
   unfolding residue
   residue_lt (pos a) = mod-lt a (omega arith)

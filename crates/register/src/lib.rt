@@ -3,10 +3,10 @@
 
 ghost use Rattle.std.specs.Prelude.{◌≡◌, ℕ, ◌^◌, ◌<◌, length, slice_index};
 
-mod calls;
 mod joins;
 mod reads;
 mod scaled;
+mod signs;
 mod sums;
 
 pub use scaled::Scaled;

@@ -10,70 +10,70 @@ impl Register {
     fn limb(&self, i: usize) -> u64
         ensures { result ≡ slice_index self.now.limbs i }
     {
-        if i < 34 { self.limbs[i] } else { 0 }
+        self.limbs.get(i).copied().unwrap_or(0)
     }
 
-    pub(crate) fn top_bit(&self) -> bool
+    /// Whether the value is below 0.
+    #[tactic(auto, using(crate::proofs::Splits::negative_is))]
+    pub fn is_negative(&self) -> bool
         ensures { result ≡ int_lt (value self.now) (pos 0) }
     {
-        self.limbs[33] > 0x7fff_ffff_ffff_ffff
+        self.limbs[33] > i64::MAX as u64
     }
 
-    // The bits of the magnitude; those of the least value are its own.
-    pub(crate) fn unsigned(&self, negative: bool) -> Register
-        requires { negative ≡ int_lt (value self.now) (pos 0) }
+    /// The register's magnitude, whose bits are read with no sign.
+    #[tactic(auto, using(crate::proofs::Splits::magnitude_same, crate::proofs::Splits::magnitude_opposite))]
+    pub fn magnitude(&self) -> Register
         ensures { bits result ≡ unsigned_abs (value self.now) }
     {
-        if negative {
-            let mut opposite = Register::of_limb(0);
-            opposite.subtract_limbs(self);
+        if self.is_negative() {
+            let mut opposite = Register::zero();
+            opposite.subtract(self);
             opposite
         } else {
             *self
         }
     }
 
-    pub(crate) fn bits_from(&self, at: u32) -> u64
+    /// The 64 bits from bit `at` on, with no sign.
+    #[tactic(auto, using(crate::proofs::Splits::window_is))]
+    pub fn window(&self, at: u32) -> u64
         ensures { result ≡ bits self.now / 2 ^ at % 2 ^ 64 }
     {
         let i = (at / 64) as usize;
-        let low = self.limb(i);
-        let high = self.limb(i + 1);
-        let pair = low as u128 + high as u128 * 0x1_0000_0000_0000_0000;
-        ((pair >> (at % 64)) % 0x1_0000_0000_0000_0000) as u64
+        let pair = u128::from(self.limb(i)) + (u128::from(self.limb(i + 1)) << 64);
+        ((pair >> (at % 64)) % (1 << 64)) as u64
     }
 
-    pub(crate) fn low_bits(&self, at: u32) -> bool
+    /// Whether a bit below bit `at` is set.
+    pub fn any_below(&self, at: u32) -> bool
         ensures { result ≡ nat_lt 0 (bits self.now % 2 ^ at) }
     {
         let whole = (at / 64) as usize;
-        for i in 0..whole.min(34) {
-            if self.limbs[i] > 0 {
-                return true;
-            }
-        }
-        self.limb(whole) % (1 << (at % 64)) > 0
+        self.limbs.iter().take(whole).any(|limb| *limb > 0)
+            || self.limb(whole) % (1 << (at % 64)) > 0
     }
 
-    pub(crate) fn highest_bit(&self) -> u32
+    /// The number of bits, with no sign.
+    pub fn bit_length(&self) -> u32
         ensures { LeastBits (bits self.now) result }
     {
-        for i in (0..34).rev() {
-            if self.limbs[i] > 0 {
-                return 64 * (i as u32) + (64 - self.limbs[i].leading_zeros());
-            }
+        match self.limbs.iter().rposition(|limb| *limb > 0) {
+            Some(i) => 64 * (i as u32) + (64 - self.limbs[i].leading_zeros()),
+            None => 0,
         }
-        0
     }
 
-    pub(crate) fn rounded(&self, at: u32) -> u64
+    /// The bits in units of 2^at, rounded to the nearest whole number and from halfway to the even one.
+    #[tactic(auto, using(crate::proofs::Rounds::nearest))]
+    pub fn rounded_at(&self, at: u32) -> u64
         requires place { 0 < at }
         requires size { bits self.now / 2 ^ at < 2 ^ 63 }
         ensures { Rounded (bits self.now) (2 ^ at) result }
     {
-        let whole = self.bits_from(at);
-        let half = self.bits_from(at - 1) % 2;
-        let more = self.low_bits(at - 1);
+        let whole = self.window(at);
+        let half = self.window(at - 1) % 2;
+        let more = self.any_below(at - 1);
         let up = half.min((more as u64).max(whole % 2));
         whole + up
     }
