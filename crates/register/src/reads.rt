@@ -72,9 +72,8 @@ impl Register {
         ensures { Rounded (bits self.now) (2 ^ at) result }
     {
         let whole = self.window(at);
-        let half = self.window(at - 1) % 2;
-        let more = self.any_below(at - 1);
-        let up = half.min((more as u64).max(whole % 2));
-        whole + up
+        let half = self.window(at - 1) % 2 == 1;
+        let up = half && (whole % 2 == 1 || self.any_below(at - 1));
+        whole + u64::from(up)
     }
 }
