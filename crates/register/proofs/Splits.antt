@@ -15,14 +15,9 @@ use Rattle.register.specs.Laws.{value_register_of, value_zero}
 use Rattle.register.specs.Limbs.{nat_of, LeastBits}
 use Rattle.register.specs.Wrap.{half, residue, signed_at, wrap_at, wrap, value_of}
 use Rattle.register.specs.declared.Register.{Register}
-use Rattle.register.specs.Places.{weight_suc, nat_of_take}
+use Rattle.register.specs.Places.{weight_suc, front_lt, nat_of_take}
 use Rattle.register.specs.Whole.{limb, half_pos, whole_lt}
 use Rattle.register.specs.Wrapping.{residue_lt, residue_signed}
-
-front_lt : (xs : List ℕ) (i : ℕ) → ((k : ℕ) → get_or xs k 0 < 2 ^ 64) → nat_of (take i xs) < 2 ^ (64 * i)
-front_lt xs zero h = omega arith
-front_lt [] (suc i) h = pow_pos (64 * suc i)
-front_lt (x ∷ xs) (suc i) h = rw (weight_suc i) (omega (arith, h 0, front_lt xs i (λ k. h (suc k))))
 
 pub whole_split : (xs : List ℕ) (i : ℕ) → nat_of xs ≡ nat_of (drop i xs) * 2 ^ (64 * i) + nat_of (take i xs)
 whole_split xs zero = omega arith

@@ -1,10 +1,10 @@
 -- A register as a whole.
 use Rattle.std.specs.Prelude.{◌≡◌, ℕ, ◌+◌, ◌*◌, ◌^◌, ◌<◌, ◌≤◌, ℤ, ◌+ℤ◌, slice_index, unsigned_abs, refl}
-use Rattle.std.proofs.Common.{ap, ◌∙◌, subst, arith, pow_pos}
+use Rattle.std.proofs.Common.{take, take_all, arith, pow_pos}
 use Rattle.register.specs.Value.{bits}
 use Rattle.register.specs.Wrap.{half}
 use Rattle.register.specs.declared.Register.{Register}
-use Rattle.register.specs.Places.{nat_of_lt}
+use Rattle.register.specs.Places.{front_lt}
 use Rattle.std.proofs.lemmas.Int.{ints}
 
 pub half_pos : 0 < half
@@ -23,4 +23,4 @@ abbrev pub limb : Register → ℕ → ℕ
 limb r i = slice_index r.limbs i
 
 pub whole_lt : (r : Register) → bits r < 2 * half
-whole_lt r = subst (λ n. bits r < n) (ap (λ n. 2 ^ (64 * n)) r.long ∙ whole_is) (nat_of_lt r.limbs r.small)
+whole_lt r = let all : take 34 r.limbs ≡ r.limbs = take_all 34 r.limbs (omega (arith, r.long)) in simp (all, whole_is) at (front_lt r.limbs 34 r.small)

@@ -1,8 +1,8 @@
 use Rattle.std.proofs.Common.{◌≡◌, length, slice_index, take, take_all, zero-mul, rules, arith}
 use Rattle.std.proofs.lemmas.List.{set-get_or}
+use Rattle.std.proofs.lemmas.Grind.{common_steps}
 use Rattle.std.specs.Int.{from_bool}
 use Rattle.register.specs.Limbs.{nat_of}
-use Rattle.register.specs.Places.{small_set}
 use Rattle.register.proofs.Carries.{step}
 use Rattle.register.proofs.sums.add_limbs.Goals as goal
 
@@ -10,7 +10,7 @@ pub loop-i-preserved : goal.loop-i-preserved
 loop-i-preserved g c =
     let other : c.unwrap_or-other.result ≡ slice_index c.args.others.now c.loop-i.i = search rules in
     record {
-      small = small_set c.loop-i.limbs c.loop-i.i c.step.result.0 c.loop-i.invariant.small (search rules);
+      small = λ k. grind (arith, common_steps, c.loop-i.invariant.small k);
       sum =
           step g.S.Sign.negative c.loop-i.limbs c.args.others.now (nat_of c.args.limbs.now) c.step.result.0 (from_bool c.loop-i.carry) (from_bool c.step.result.1) c.loop-i.i (omega arith) (rw other at c.step.ensures) c.loop-i.invariant.sum;
     }
