@@ -20,6 +20,7 @@ fn add_limbs<S: Sign>(limbs: &mut [u64], others: &[u64])
         if i >= others.len() && !carry {
             break;
         }
+        // By index, since an invariant cannot name what a loop over a `zip` has written.
         let other = others.get(i).copied().unwrap_or(0);
         (*limb, carry) = S::step(*limb, other, carry);
     }
