@@ -1,8 +1,9 @@
 -- Binary formats whose patterns go into words of 64 bits.
 use Rattle.std.specs.Prelude.{◌≡◌, ℕ, ◌+◌, ◌-◌, ◌*◌, ◌^◌, ◌<◌, ◌≤◌, Bool, cond, ◌&&◌, ℤ, ◌-ℤ◌, nat_lt}
+use Rattle.std.proofs.Common.{rules}
 use Rattle.numbers.specs.Format.{Format, bound, top}
 use Rattle.numbers.specs.Nearest.{nearest}
-use Rattle.numbers.specs.Binary.{sign_bit, pattern}
+use Rattle.numbers.specs.Binary.{sign_bit, pattern, binary64, binary32}
 
 -- the format's `lead` is 2 ^ width
 pub record Layout (f : Format) (width : ℕ) : Type 0 where
@@ -14,6 +15,12 @@ pub record Layout (f : Format) (width : ℕ) : Type 0 where
   pub short : f.scales ≤ 2045
   pub low : top f < 2 ^ 2098
   pub word : 2 * sign_bit f ≤ 2 ^ 64
+
+pub layout_64 : Layout binary64 52
+layout_64 = search rules
+
+pub layout_32 : Layout binary32 23
+layout_32 = search rules
 
 -- the pattern of the greatest number
 abbrev pub top_code : Format → ℕ

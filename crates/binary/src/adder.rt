@@ -45,7 +45,7 @@ fn nearest_to<B: Binary>(m: u128, shift: u32) -> Near
     if m == 0 {
         return Near { code: 0, units: 0 };
     }
-    let digits = B::fraction() + 1;
+    let digits = B::FRACTION + 1;
     let lead = B::lead();
     let size = 128 - m.leading_zeros();
     if size <= digits {
@@ -55,7 +55,7 @@ fn nearest_to<B: Binary>(m: u128, shift: u32) -> Near
             units: m,
         };
     }
-    let room = B::scales() - shift;
+    let room = B::SCALES - shift;
     let drop = size - digits;
     if drop <= room {
         let n = halved(m, drop);
@@ -117,7 +117,7 @@ fn joined<B: Binary>(x: Scaled, y: Scaled) -> (u64, u64)
     ensures { Settled B.Binary.format (meant x +ℤ meant y) result.0 result.1 }
 {
     let gap = x.shift - y.shift;
-    if gap > B::fraction() + 2 {
+    if gap > B::FRACTION + 2 {
         return (written::<B>(x), written::<B>(y));
     }
     let big = (x.magnitude as u128) << gap;

@@ -1,37 +1,47 @@
 //! The two binary formats.
-ghost use Rattle.std.specs.Prelude.{◌≡◌, ℕ};
+ghost use Rattle.std.specs.Prelude.{◌≡◌, ℕ, refl};
 ghost use Rattle.numbers.specs.Format.{Format};
 ghost use Rattle.numbers.specs.Binary.{sign_bit, binary64, binary32};
-ghost use Rattle.binary.specs.Layout.{Layout, top_code};
-ghost use Rattle.std.proofs.Common.{rules};
+ghost use Rattle.binary.specs.Layout.{Layout, top_code, layout_64, layout_32};
 
 /// A binary format that fits words of 64 bits.
 pub trait Binary {
     ghost format: { Format };
 
-    ghost width: { ℕ };
+    ghost FRACTION: { ℕ };
+
+    ghost SCALES: { ℕ };
 
     /// The bits of the fraction field.
-    fn fraction() -> u32
-        ensures { result ≡ width };
-
-    /// How many fractions there are, which is the least coefficient that needs its scale.
-    fn lead() -> u64
-        ensures { result ≡ format.lead };
+    const FRACTION: u32;
 
     /// The greatest scale.
-    fn scales() -> u32
-        ensures { result ≡ format.scales };
+    const SCALES: u32;
+
+    ghost layout: { Layout format FRACTION };
+
+    ghost greatest: { SCALES ≡ format.scales };
+
+    /// How many fractions there are, which is the least coefficient that needs its scale.
+    final fn lead() -> u64
+        ensures { result ≡ format.lead }
+    {
+        1 << Self::FRACTION
+    }
 
     /// The sign bit.
-    fn sign_bit() -> u64
-        ensures { result ≡ sign_bit format };
+    final fn sign_bit() -> u64
+        ensures { result ≡ sign_bit format }
+    {
+        Self::lead() * (Self::SCALES as u64 + 3)
+    }
 
-    /// The pattern of the greatest number.
-    fn top() -> u64
-        ensures { result ≡ top_code format };
-
-    ghost layout: { Layout format width };
+    /// The pattern of the greatest number: the one below infinity's, whose exponent field is the first that is all ones.
+    final fn top() -> u64
+        ensures { result ≡ top_code format }
+    {
+        Self::sign_bit() - Self::lead() - 1
+    }
 }
 
 /// Numbers of 64 bits, in units of 2^-1074 cubic metre.
@@ -40,29 +50,17 @@ pub struct Binary64;
 impl Binary for Binary64 {
     ghost format = { binary64 };
 
-    ghost width = { 52 };
+    ghost FRACTION = { 52 };
 
-    ghost layout = { Prim.search rules };
+    ghost SCALES = { 2045 };
 
-    fn fraction() -> u32 {
-        52
-    }
+    const FRACTION: u32 = 52;
 
-    fn lead() -> u64 {
-        0x10_0000_0000_0000
-    }
+    const SCALES: u32 = 2045;
 
-    fn scales() -> u32 {
-        2045
-    }
+    ghost layout = { layout_64 };
 
-    fn sign_bit() -> u64 {
-        1 << 63
-    }
-
-    fn top() -> u64 {
-        0x7FEF_FFFF_FFFF_FFFF
-    }
+    ghost greatest = { refl };
 }
 
 /// Numbers of 32 bits, in units of 2^-149 cubic metre.
@@ -71,27 +69,15 @@ pub struct Binary32;
 impl Binary for Binary32 {
     ghost format = { binary32 };
 
-    ghost width = { 23 };
+    ghost FRACTION = { 23 };
 
-    ghost layout = { Prim.search rules };
+    ghost SCALES = { 253 };
 
-    fn fraction() -> u32 {
-        23
-    }
+    const FRACTION: u32 = 23;
 
-    fn lead() -> u64 {
-        0x80_0000
-    }
+    const SCALES: u32 = 253;
 
-    fn scales() -> u32 {
-        253
-    }
+    ghost layout = { layout_32 };
 
-    fn sign_bit() -> u64 {
-        1 << 31
-    }
-
-    fn top() -> u64 {
-        0x7F7F_FFFF
-    }
+    ghost greatest = { refl };
 }

@@ -15,7 +15,7 @@ fn is_finite<B: Binary>(p: u64, sign: u64, lead: u64) -> bool
     requires lead { lead ≡ B.Binary.format.lead }
     ensures { result ≡ is_number B.Binary.format p }
 {
-    p / 2 < sign && p % sign / lead < B::scales() as u64 + 2
+    p / 2 < sign && p % sign / lead < B::SCALES as u64 + 2
 }
 
 /// Whether a pattern is a number: its exponent field is not all ones, and no bit above the sign is set.

@@ -30,13 +30,13 @@ fn in_range<B: Binary>(code: u64) -> Option<u64>
 fn rounded<B: Binary>(m: &Register) -> Option<u64>
     ensures { result ≡ code_in_range B.Binary.format (bits m.now) }
 {
-    let digits = B::fraction() + 1;
+    let digits = B::FRACTION + 1;
     let size = m.bit_length();
     if size <= digits {
         return Some(m.window(0));
     }
     let at = size - digits;
-    if at > B::scales() {
+    if at > B::SCALES {
         return None;
     }
     in_range::<B>(at as u64 * B::lead() + m.rounded_at(at))

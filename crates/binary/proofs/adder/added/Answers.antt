@@ -30,8 +30,8 @@ joined-requires g c =
 pub returns : goal.returns
 returns g c =
     let f = g.B.Binary.format in
-    let k = g.B.Binary.width in
-    let lay = g.met.B.Binary.layout in
+    let k = g.B.Binary.FRACTION in
+    let lay = g.B.Binary.layout in
     let a = c.args.a in
     let b = c.args.b in
     let p = c.ordered.result in

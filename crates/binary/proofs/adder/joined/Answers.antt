@@ -5,17 +5,17 @@ use Rattle.register.specs.Value.{meant}
 use Rattle.binary.proofs.Joins as join
 use Rattle.binary.proofs.adder.joined.Goals as goal
 
-pub returns-then-gap-fraction : goal.returns-then-gap-fraction
-returns-then-gap-fraction g c =
-    join.far_apart g.B.Binary.format g.B.Binary.width g.met.B.Binary.layout c.args.x c.args.y c.requires.first c.requires.second
-    c.written.result c.written-then-gap-fraction.result (omega (arith, c.if-gap-fraction.true, c.fraction.ensures)) c.written.ensures c.written-then-gap-fraction.ensures
+pub returns-then-gap-FRACTION : goal.returns-then-gap-FRACTION
+returns-then-gap-FRACTION g c =
+    join.far_apart g.B.Binary.format g.B.Binary.FRACTION g.B.Binary.layout c.args.x c.args.y c.requires.first c.requires.second
+    c.written.result c.written-then-gap-FRACTION.result (omega (arith, c.if-gap-FRACTION.true, c.FRACTION.ensures)) c.written.ensures c.written-then-gap-FRACTION.ensures
 
 pub settled-requires : goal.settled-requires
 settled-requires g c =
     let f = g.B.Binary.format in
-    let k = g.B.Binary.width in
-    let lay = g.met.B.Binary.layout in
-    let near : c.args.x.shift - c.args.y.shift ≤ k + 2 = omega (arith, c.if-gap-fraction.false, c.fraction.ensures) in (
+    let k = g.B.Binary.FRACTION in
+    let lay = g.B.Binary.layout in
+    let near : c.args.x.shift - c.args.y.shift ≤ k + 2 = omega (arith, c.if-gap-FRACTION.false, c.FRACTION.ensures) in (
       omega (
         arith,
         c.combined-negative.ensures.size,
@@ -29,11 +29,11 @@ settled-requires g c =
 pub returns : goal.returns
 returns g c =
     let f = g.B.Binary.format in
-    let k = g.B.Binary.width in
-    let lay = g.met.B.Binary.layout in
+    let k = g.B.Binary.FRACTION in
+    let lay = g.B.Binary.layout in
     let x = c.args.x in
     let y = c.args.y in
-    let near : x.shift - y.shift ≤ k + 2 = omega (arith, c.if-gap-fraction.false, c.fraction.ensures) in
+    let near : x.shift - y.shift ≤ k + 2 = omega (arith, c.if-gap-FRACTION.false, c.FRACTION.ensures) in
     let b = (x.magnitude * 2 ^ (x.shift - y.shift)) % 2 ^ 128 in
     let i = join.lined f k lay x y c.requires.first c.requires.second c.requires.order near b (join.big_is f k lay x y c.requires.first c.requires.second c.requires.order near) in
     subst (λ (v : ℤ). Settled f v c.settled.result.0 c.settled.result.1)

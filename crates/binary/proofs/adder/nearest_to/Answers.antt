@@ -11,7 +11,7 @@ use Rattle.binary.proofs.adder.nearest_to.Goals.{then-drop-room+else-fits, else-
 pub returns-then-m-eq0 : goal.returns-then-m-eq0
 returns-then-m-eq0 g c =
     let f = g.B.Binary.format in
-    let n = none f g.B.Binary.width g.met.B.Binary.layout c.args.shift in
+    let n = none f g.B.Binary.FRACTION g.B.Binary.layout c.args.shift in
     let e = c.if-m-eq0.true in
     record {
       code = n.0 ∙ ap (λ (x : ℕ). code f (nearest_ℕ f (x * 2 ^ c.args.shift))) (sym e);
@@ -20,49 +20,49 @@ returns-then-m-eq0 g c =
 
 pub overflow_mul-result : goal.overflow_mul-result
 overflow_mul-result g c =
-    let x = known g.met.B.Binary.layout c.lead-lead.ensures c.fraction-digits.ensures refl c.requires.1 c.if-m-eq0.false c.requires.0 in
+    let x = known g.B.Binary.layout c.lead-lead.ensures c.FRACTION-digits.ensures refl c.requires.1 c.if-m-eq0.false c.requires.0 in
     omega (arith, (step.low_fits x c.min-up.result c.if-size-digits.true c.min-up.ensures).0)
 
 pub overflow_cast-result-then-size-digits : goal.overflow_cast-result-then-size-digits
 overflow_cast-result-then-size-digits g c =
-    let x = known g.met.B.Binary.layout c.lead-lead.ensures c.fraction-digits.ensures refl c.requires.1 c.if-m-eq0.false c.requires.0 in
+    let x = known g.B.Binary.layout c.lead-lead.ensures c.FRACTION-digits.ensures refl c.requires.1 c.if-m-eq0.false c.requires.0 in
     omega (arith, step.low_cast x c.if-size-digits.true)
 
 pub overflow_add-result : goal.overflow_add-result
 overflow_add-result g c =
-    let x = known g.met.B.Binary.layout c.lead-lead.ensures c.fraction-digits.ensures refl c.requires.1 c.if-m-eq0.false c.requires.0 in
+    let x = known g.B.Binary.layout c.lead-lead.ensures c.FRACTION-digits.ensures refl c.requires.1 c.if-m-eq0.false c.requires.0 in
     omega (arith, (step.low_fits x c.min-up.result c.if-size-digits.true c.min-up.ensures).1)
 
 pub returns-then-size-digits : goal.returns-then-size-digits
 returns-then-size-digits g c =
-    let x = known g.met.B.Binary.layout c.lead-lead.ensures c.fraction-digits.ensures refl c.requires.1 c.if-m-eq0.false c.requires.0 in
+    let x = known g.B.Binary.layout c.lead-lead.ensures c.FRACTION-digits.ensures refl c.requires.1 c.if-m-eq0.false c.requires.0 in
     let t = step.low_near x c.min-up.result c.if-size-digits.true c.min-up.ensures in
     record { code = t.0; units = t.1 }
 
 pub halved-n-requires : goal.halved-n-requires
 halved-n-requires g c =
-    let x = known g.met.B.Binary.layout c.lead-lead.ensures c.fraction-digits.ensures c.scales.ensures c.requires.1 c.if-m-eq0.false c.requires.0 in
+    let x = known g.B.Binary.layout c.lead-lead.ensures c.FRACTION-digits.ensures (c.SCALES.ensures ∙ g.B.Binary.greatest) c.requires.1 c.if-m-eq0.false c.requires.0 in
     step.high_asks x c.if-size-digits.false
 
 pub overflow_mul-code : goal.overflow_mul-code
 overflow_mul-code g c =
-    let x = known g.met.B.Binary.layout c.lead-lead.ensures c.fraction-digits.ensures c.scales.ensures c.requires.1 c.if-m-eq0.false c.requires.0 in
+    let x = known g.B.Binary.layout c.lead-lead.ensures c.FRACTION-digits.ensures (c.SCALES.ensures ∙ g.B.Binary.greatest) c.requires.1 c.if-m-eq0.false c.requires.0 in
     omega (arith, (step.high_fits x c.halved-n.result c.if-size-digits.false c.if-drop-room.true c.halved-n.ensures).0)
 
 pub overflow_add-code-then-drop-room : goal.overflow_add-code-then-drop-room
 overflow_add-code-then-drop-room g c =
-    let x = known g.met.B.Binary.layout c.lead-lead.ensures c.fraction-digits.ensures c.scales.ensures c.requires.1 c.if-m-eq0.false c.requires.0 in
+    let x = known g.B.Binary.layout c.lead-lead.ensures c.FRACTION-digits.ensures (c.SCALES.ensures ∙ g.B.Binary.greatest) c.requires.1 c.if-m-eq0.false c.requires.0 in
     omega (arith, (step.high_fits x c.halved-n.result c.if-size-digits.false c.if-drop-room.true c.halved-n.ensures).1)
 
 pub returns-then-fits : goal.returns-then-fits
 returns-then-fits g c =
-    let x = known g.met.B.Binary.layout c.lead-lead.ensures c.fraction-digits.ensures c.scales.ensures c.requires.1 c.if-m-eq0.false c.requires.0 in
+    let x = known g.B.Binary.layout c.lead-lead.ensures c.FRACTION-digits.ensures (c.SCALES.ensures ∙ g.B.Binary.greatest) c.requires.1 c.if-m-eq0.false c.requires.0 in
     let t = step.high_near x c.halved-n.result c.if-size-digits.false c.if-drop-room.true c.halved-n.ensures (omega (arith, step.top_code_lem x, true-leb _ _ c.if-fits.ensures)) in
     record { code = t.0; units = t.1 }
 
 pub overflow_shl-result-2 : goal.overflow_shl-result-2
 overflow_shl-result-2 g c =
-    let x = known g.met.B.Binary.layout c.lead-lead.ensures c.fraction-digits.ensures c.scales.ensures c.requires.1 c.if-m-eq0.false c.requires.0 in
+    let x = known g.B.Binary.layout c.lead-lead.ensures c.FRACTION-digits.ensures (c.SCALES.ensures ∙ g.B.Binary.greatest) c.requires.1 c.if-m-eq0.false c.requires.0 in
     let t : Top g.B.Binary.format c.args.m c.args.shift =
     elim c.if-drop-room.branch [
       | then-drop-room+else-fits w ↦
@@ -73,7 +73,7 @@ overflow_shl-result-2 g c =
 
 pub returns : goal.returns
 returns g c =
-    let x = known g.met.B.Binary.layout c.lead-lead.ensures c.fraction-digits.ensures c.scales.ensures c.requires.1 c.if-m-eq0.false c.requires.0 in
+    let x = known g.B.Binary.layout c.lead-lead.ensures c.FRACTION-digits.ensures (c.SCALES.ensures ∙ g.B.Binary.greatest) c.requires.1 c.if-m-eq0.false c.requires.0 in
     let t : Top g.B.Binary.format c.args.m c.args.shift =
     elim c.if-drop-room.branch [
       | then-drop-room+else-fits w ↦

@@ -5,5 +5,5 @@ use Rattle.binary.proofs.patterns.patterns.Goals as goal
 pub returns : goal.returns
 returns g c =
     let f = g.B.Binary.format in
-    let lay = g.met.B.Binary.layout in
-    binary.patterns f lay.binary (lead_even f g.B.Binary.width lay)
+    let lay = g.B.Binary.layout in
+    binary.patterns f lay.binary (lead_even f g.B.Binary.FRACTION lay)

@@ -10,14 +10,14 @@ signed-requires g c =
     let f = g.B.Binary.format in
     let v = value c.args.sum.now in
     let h = c.in-Some.ensures ∙ ap (code_in_range f) c.magnitude.ensures in
-    lt_of_le_of_lt (le_of_eq (range.in_parts f v c.in-Some.code h).1) (code_small f g.B.Binary.width g.met.B.Binary.layout (nat_abs v))
+    lt_of_le_of_lt (le_of_eq (range.in_parts f v c.in-Some.code h).1) (code_small f g.B.Binary.FRACTION g.B.Binary.layout (nat_abs v))
 
 pub returns-in-Some : goal.returns-in-Some
 returns-in-Some g c =
     let f = g.B.Binary.format in
     let v = value c.args.sum.now in
     let h = c.in-Some.ensures ∙ ap (code_in_range f) c.magnitude.ensures in
-    range.read f v g.B.Binary.width g.met.B.Binary.layout c.in-Some.code c.signed.result c.args.negative h c.requires c.signed.ensures
+    range.read f v g.B.Binary.FRACTION g.B.Binary.layout c.in-Some.code c.signed.result c.args.negative h c.requires c.signed.ensures
 
 pub returns-then-negative : goal.returns-then-negative
 returns-then-negative g c =

@@ -10,15 +10,15 @@ use Rattle.kinds.proofs.binary_kinds.rounded.Goals as goal
 
 pub returns-then-size-digits : goal.returns-then-size-digits
 returns-then-size-digits g c =
-    let d : c.fraction-digits.result + 1 ≡ suc g.B.Binary.width = omega (arith, c.fraction-digits.ensures) in
+    let d : c.FRACTION-digits.result + 1 ≡ suc g.B.Binary.FRACTION = omega (arith, c.FRACTION-digits.ensures) in
     ap Some c.window.ensures
-    ∙ range.whole g.B.Binary.format g.B.Binary.width g.met.B.Binary.layout _ _ c.bit_length-size.ensures (omega (arith, d, c.if-size-digits.true))
+    ∙ range.whole g.B.Binary.format g.B.Binary.FRACTION g.B.Binary.layout _ _ c.bit_length-size.ensures (omega (arith, d, c.if-size-digits.true))
 
-pub returns-then-at-scales : goal.returns-then-at-scales
-returns-then-at-scales g c =
-    let d : c.fraction-digits.result + 1 ≡ suc g.B.Binary.width = omega (arith, c.fraction-digits.ensures) in
-    range.long g.B.Binary.format g.B.Binary.width g.met.B.Binary.layout _ _ c.bit_length-size.ensures (omega (arith, d, c.if-size-digits.false))
-    (omega (arith, d, c.if-at-scales.true, c.scales.ensures))
+pub returns-then-at-SCALES : goal.returns-then-at-SCALES
+returns-then-at-SCALES g c =
+    let d : c.FRACTION-digits.result + 1 ≡ suc g.B.Binary.FRACTION = omega (arith, c.FRACTION-digits.ensures) in
+    range.long g.B.Binary.format g.B.Binary.FRACTION g.B.Binary.layout _ _ c.bit_length-size.ensures (omega (arith, d, c.if-size-digits.false))
+    (omega (arith, d, c.if-at-SCALES.true, c.SCALES.ensures, g.B.Binary.greatest))
 
 -- what the code holds: the digits, the size, the lead and the rounded coefficient
 module _ (f : Format) (k : ℕ) (lay : Layout f k) (m s D L : ℕ) (size : LeastBits m s) (e_d : D ≡ suc k) (e_l : L ≡ f.lead) (more : D < s) (fits : s - D ≤ f.scales) where
@@ -45,11 +45,11 @@ module _ (f : Format) (k : ℕ) (lay : Layout f k) (m s D L : ℕ) (size : Least
 
 pub overflow_mul-at : goal.overflow_mul-at
 overflow_mul-at g c =
-    let e = c.fraction-digits.ensures in
+    let e = c.FRACTION-digits.ensures in
     omega (
       arith,
-      mul_fits g.B.Binary.format g.B.Binary.width g.met.B.Binary.layout (bits c.args.m.now) c.bit_length-size.result (c.fraction-digits.result + 1) c.lead.result
-          c.bit_length-size.ensures (omega (arith, e)) c.lead.ensures c.if-size-digits.false (omega (arith, c.if-at-scales.false, c.scales.ensures)),
+      mul_fits g.B.Binary.format g.B.Binary.FRACTION g.B.Binary.layout (bits c.args.m.now) c.bit_length-size.result (c.FRACTION-digits.result + 1) c.lead.result
+          c.bit_length-size.ensures (omega (arith, e)) c.lead.ensures c.if-size-digits.false (omega (arith, c.if-at-SCALES.false, c.SCALES.ensures, g.B.Binary.greatest)),
     )
 
 pub rounded_at-requires : goal.rounded_at-requires
@@ -57,34 +57,34 @@ rounded_at-requires g c =
     record {
       place = omega (arith, c.if-size-digits.false);
       size =
-          part g.B.Binary.format g.B.Binary.width g.met.B.Binary.layout _ _ _ _ c.bit_length-size.ensures (omega (arith, c.fraction-digits.ensures)) c.lead.ensures
-          c.if-size-digits.false (omega (arith, c.if-at-scales.false, c.scales.ensures));
+          part g.B.Binary.format g.B.Binary.FRACTION g.B.Binary.layout _ _ _ _ c.bit_length-size.ensures (omega (arith, c.FRACTION-digits.ensures)) c.lead.ensures
+          c.if-size-digits.false (omega (arith, c.if-at-SCALES.false, c.SCALES.ensures, g.B.Binary.greatest));
     }
 
 pub overflow_add-at : goal.overflow_add-at
 overflow_add-at g c =
-    let e = c.fraction-digits.ensures in
+    let e = c.FRACTION-digits.ensures in
     omega (
       arith,
-      sum_fits g.B.Binary.format g.B.Binary.width g.met.B.Binary.layout (bits c.args.m.now) c.bit_length-size.result (c.fraction-digits.result + 1) c.lead.result
-          c.bit_length-size.ensures (omega (arith, e)) c.lead.ensures c.if-size-digits.false (omega (arith, c.if-at-scales.false, c.scales.ensures)) c.rounded_at.result
+      sum_fits g.B.Binary.format g.B.Binary.FRACTION g.B.Binary.layout (bits c.args.m.now) c.bit_length-size.result (c.FRACTION-digits.result + 1) c.lead.result
+          c.bit_length-size.ensures (omega (arith, e)) c.lead.ensures c.if-size-digits.false (omega (arith, c.if-at-SCALES.false, c.SCALES.ensures, g.B.Binary.greatest)) c.rounded_at.result
           c.rounded_at.ensures,
     )
 
 pub returns : goal.returns
 returns g c =
     let f = g.B.Binary.format in
-    let k = g.B.Binary.width in
-    let lay = g.met.B.Binary.layout in
+    let k = g.B.Binary.FRACTION in
+    let lay = g.B.Binary.layout in
     let m = bits c.args.m.now in
     let s = c.bit_length-size.result in
-    let D = c.fraction-digits.result + 1 in
+    let D = c.FRACTION-digits.result + 1 in
     let L = c.lead.result in
     let n = c.rounded_at.result in
     let size = c.bit_length-size.ensures in
-    let e_d : D ≡ suc k = omega (arith, c.fraction-digits.ensures) in
+    let e_d : D ≡ suc k = omega (arith, c.FRACTION-digits.ensures) in
     let more : D < s = c.if-size-digits.false in
-    let fits : s - D ≤ f.scales = omega (arith, c.if-at-scales.false, c.scales.ensures) in
+    let fits : s - D ≤ f.scales = omega (arith, c.if-at-SCALES.false, c.SCALES.ensures, g.B.Binary.greatest) in
     c.in_range.ensures
     ∙ range.last f k lay m s size (place f k lay m s D L size e_d c.lead.ensures more fits) (within f k lay m s D L size e_d c.lead.ensures more fits) n
     (near f k lay m s D L size e_d c.lead.ensures more fits n c.rounded_at.ensures) ((s - D) * L + n)
