@@ -1,6 +1,7 @@
 -- The adder's steps.
-use Rattle.std.proofs.Common.{◌≡◌, ℕ, suc, ◌+◌, ◌-◌, ◌*◌, ◌%◌, ◌^◌, ◌<◌, ◌≤◌, Bool, true, false, not, ℤ, ◌+ℤ◌, ◌-ℤ◌, nat_abs, sym, ap, ◌∙◌, subst, inl, inr, le_trans, le_of_eq, lt_of_lt_of_le, mod-eq_of_lt, mul_assoc, arith, pow_mono, pow-add}
+use Rattle.std.proofs.Common.{◌≡◌, ℕ, suc, ◌+◌, ◌-◌, ◌*◌, ◌%◌, ◌^◌, ◌<◌, ◌≤◌, Bool, ℤ, pos, ◌*ℤ◌, ◌+ℤ◌, ◌-ℤ◌, nat_abs, sym, ap, ◌∙◌, subst, ap₂, inl, inr, le_trans, le_of_eq, lt_of_lt_of_le, mod-eq_of_lt, mul_assoc, arith, pow_mono, pow-add}
 use borrow.Author.Differences.{ints}
+use lib.Signed.{lt_z}
 use Rattle.std.proofs.lemmas.Nat.{shl_below}
 use Rattle.numbers.specs.Format.{Format, unit, Held, Holds}
 use Rattle.numbers.specs.Nearest.{nearest_ℕ, nearest}
@@ -16,14 +17,7 @@ use Rattle.register.specs.Value.{meant}
 use Rattle.binary.specs.Canonical.{Canonical}
 use Rattle.register.specs.declared.scaled.Scaled.{Scaled as Number}
 use Rattle.binary.proofs.Nearby.{bound_two}
-use Rattle.binary.proofs.Signs.{abs_signed, nearest_signed, pattern_signed}
-
-pub comm : (a b : ℤ) → a +ℤ b ≡ b +ℤ a
-comm a b = omega (arith, ints)
-
-minus_signed : (v : ℤ) (b : Bool) (x : ℕ) → v +ℤ signed_by (not b) x ≡ v -ℤ signed_by b x
-minus_signed v true x = omega (arith, ints)
-minus_signed v false x = omega (arith, ints)
+use Rattle.binary.proofs.Signs.{abs_signed, sum_times, difference_times, signed_times, in_units, nearest_signed, pattern_signed}
 
 module _ (f : Format) (k : ℕ) (lay : Layout f k) where
   -- ---- a magnitude settled
@@ -34,11 +28,15 @@ module _ (f : Format) (k : ℕ) (lay : Layout f k) where
       ∙ sym (pattern_signed f lay.binary negative (nearest_ℕ f M) (nearest_ℕ_held f M))
       ∙ ap (pattern f) (sym (nearest_signed f negative M))
 
-  pub rest_is : (negative : Bool) (m u shift : ℕ) → u * 2 ^ shift ≡ nearest_ℕ f (m * 2 ^ shift)
-      → (let v = signed_by negative (m * 2 ^ shift) in v +ℤ signed_by (not negative) (u * 2 ^ shift) ≡ v -ℤ nearest f v)
-  rest_is negative m u shift e =
-      let v = signed_by negative (m * 2 ^ shift) in
-      minus_signed v negative (u * 2 ^ shift) ∙ ap (λ (z : ℤ). v -ℤ z) (ap (signed_by negative) e ∙ sym (nearest_signed f negative (m * 2 ^ shift)))
+  pub pattern_is : (v : ℤ) (u c s : ℕ) → c ≡ code f (nearest_ℕ f (nat_abs v * u)) → s ≡ signed_code f (lt_z v (pos 0)) c → s ≡ nearest_of f (v *ℤ pos u)
+  pattern_is v u c s a b = sum_is (lt_z v (pos 0)) (nat_abs v * u) c s a b ∙ ap (nearest_of f) (sym (in_units v u))
+
+  pub rest_is : (v z : ℤ) (u n : ℕ) → n * u ≡ nearest_ℕ f (nat_abs v * u) → z ≡ v -ℤ signed_by (lt_z v (pos 0)) n → z *ℤ pos u ≡ v *ℤ pos u -ℤ nearest f (v *ℤ pos u)
+  rest_is v z u n a b =
+      let t = lt_z v (pos 0) in
+      ap (λ (w : ℤ). w *ℤ pos u) b
+      ∙ difference_times v (signed_by t n) u
+      ∙ ap (λ (w : ℤ). v *ℤ pos u -ℤ w) (signed_times t n u ∙ ap (signed_by t) a ∙ sym (nearest_signed f t (nat_abs v * u)) ∙ ap (nearest f) (sym (in_units v u)))
 
   -- ---- worths
   held : (w : Number) → Canonical f w.magnitude w.shift → Held f (w.magnitude * 2 ^ w.shift)
@@ -82,24 +80,35 @@ module _ (f : Format) (k : ℕ) (lay : Layout f k) where
         let e = absorbs h in
         let d : (meant x +ℤ meant y) -ℤ nearest f (meant x +ℤ meant y) ≡ meant y =
         ap (λ (z : ℤ). (meant x +ℤ meant y) -ℤ z) e ∙ omega (arith, ints) in
-        (a ∙ ap (pattern f) (sym e), b ∙ ap (pattern f) (sym (nearest_of_held f (meant y) (worth_held y cy)) ∙ ap (nearest f) (sym d)))
+        record { sum = a ∙ ap (pattern f) (sym e); rest = b ∙ ap (pattern f) (sym (nearest_of_held f (meant y) (worth_held y cy)) ∙ ap (nearest f) (sym d)) }
 
     -- ---- near
     module _ (order : y.shift ≤ x.shift) (near : x.shift - y.shift ≤ k + 2) where
-      pub big_small : x.magnitude * 2 ^ (x.shift - y.shift) < 2 ^ 107
+      big_small : x.magnitude * 2 ^ (x.shift - y.shift) < 2 ^ 107
       big_small =
           let a = shl_below x.magnitude (suc k) (x.shift - y.shift) (lt_of_lt_of_le cx.small (le_of_eq (bound_two f k lay))) in
           let i : suc k + (x.shift - y.shift) ≤ 107 = omega (arith, lay.narrow) in
           lt_of_lt_of_le a (pow_mono i)
 
-      pub big_is : (x.magnitude * 2 ^ (x.shift - y.shift)) % 2 ^ 128 ≡ x.magnitude * 2 ^ (x.shift - y.shift)
+      big_is : (x.magnitude * 2 ^ (x.shift - y.shift)) % 2 ^ 128 ≡ x.magnitude * 2 ^ (x.shift - y.shift)
       big_is = mod-eq_of_lt (let h : x.magnitude * 2 ^ (x.shift - y.shift) < 2 ^ 128 = omega (arith, big_small) in h)
 
-      pub little : y.magnitude < 2 ^ 53
+      little : y.magnitude < 2 ^ 53
       little = let i : suc k ≤ 53 = omega (arith, lay.narrow) in lt_of_lt_of_le cy.small (le_trans (le_of_eq (bound_two f k lay)) (pow_mono i))
 
-      pub lined : (b : ℕ) → b ≡ x.magnitude * 2 ^ (x.shift - y.shift) → b * 2 ^ y.shift ≡ x.magnitude * 2 ^ x.shift
+      pub small : (x.magnitude * 2 ^ (x.shift - y.shift)) % 2 ^ 128 + y.magnitude < 2 ^ 108
+      small = omega (arith, big_is, big_small, little)
+
+      lined : (b : ℕ) → b ≡ x.magnitude * 2 ^ (x.shift - y.shift) → b * 2 ^ y.shift ≡ x.magnitude * 2 ^ x.shift
       lined b eb =
           ap (λ (z : ℕ). z * 2 ^ y.shift) eb
           ∙ mul_assoc x.magnitude (2 ^ (x.shift - y.shift)) (2 ^ y.shift)
           ∙ ap (λ (z : ℕ). x.magnitude * z) (sym (pow-add 2 (x.shift - y.shift) y.shift) ∙ ap (λ (z : ℕ). 2 ^ z) (let e : x.shift - y.shift + y.shift ≡ x.shift = omega arith in e))
+
+      pub summed : (s : ℤ) → s ≡ signed_by x.negative ((x.magnitude * 2 ^ (x.shift - y.shift)) % 2 ^ 128) +ℤ signed_by y.negative y.magnitude → s *ℤ pos (2 ^ y.shift) ≡ meant x +ℤ meant y
+      summed s e =
+          let u = 2 ^ y.shift in
+          let b = (x.magnitude * 2 ^ (x.shift - y.shift)) % 2 ^ 128 in
+          ap (λ (z : ℤ). z *ℤ pos u) e
+          ∙ sum_times (signed_by x.negative b) (signed_by y.negative y.magnitude) u
+          ∙ ap₂ ◌+ℤ◌ (signed_times x.negative b u ∙ ap (signed_by x.negative) (lined b big_is)) (signed_times y.negative y.magnitude u)

@@ -1,8 +1,7 @@
 -- Signs: the pattern of a magnitude with a sign, and sums of such.
-use Rattle.std.proofs.Common.{◌≡◌, ℕ, zero, suc, ◌+◌, ◌-◌, ◌*◌, ◌<◌, ◌≤◌, Bool, true, false, cond, not, ◌&&◌, ltb, pos, ◌+ℤ◌, neg_ℤ, nat_abs, sym, refl, ap, ◌∙◌, ap₂, mul_comm, arith, lt-ltb}
-use mathlib.Core.Bool.{beq}
-use native.Mathlib.Nat.{mul-sub}
-use borrow.Author.Differences.{ints}
+use Rattle.std.proofs.Common.{◌≡◌, ℕ, zero, suc, ◌+◌, ◌*◌, ◌<◌, ◌≤◌, Bool, true, false, cond, not, ◌&&◌, ltb, ℤ, pos, negsuc, ◌+ℤ◌, ◌-ℤ◌, ◌*ℤ◌, neg_ℤ, nat_abs, sym, refl, ap, ◌∙◌, subst, zero-mul, arith, lt-ltb, le-ltb}
+use borrow.Author.Differences.{ints, up, down}
+use lib.Signed.{lt_z}
 use Rattle.numbers.specs.Format.{Format, Held}
 use Rattle.numbers.specs.Nearest.{nearest_ℕ, nearest}
 use Rattle.numbers.specs.Binary.{code, pattern, sign_bit, magnitude}
@@ -11,32 +10,48 @@ use Rattle.numbers.proofs.Binary.{code_zero, magnitude_of_code}
 use Rattle.register.specs.Wrap.{signed_by}
 use Rattle.binary.specs.Layout.{signed_code}
 
-pub sub_mul : (a b u : ℕ) → (a - b) * u ≡ a * u - b * u
-sub_mul a b u = mul_comm (a - b) u ∙ mul-sub u a b ∙ ap₂ (λ (x y : ℕ). x - y) (mul_comm u a) (mul_comm u b)
-
 pub abs_signed : (b : Bool) (m : ℕ) → nat_abs (signed_by b m) ≡ m
 abs_signed true m = abs_neg (pos m)
 abs_signed false m = refl
 
-pub other_sign : (b : Bool) (x y : ℕ) → y ≤ x → signed_by b (x - y) ≡ signed_by b x +ℤ signed_by (not b) y
-other_sign true x y l = omega (arith, ints)
-other_sign false x y l = omega (arith, ints)
-
-pub unlike : (a b : Bool) → beq a b ≡ false → not a ≡ b
-unlike true true e = sym e
-unlike true false e = refl
-unlike false true e = refl
-unlike false false e = e
-
-pub unlike_back : (a b : Bool) → beq a b ≡ false → not b ≡ a
-unlike_back true true e = sym e
-unlike_back true false e = refl
-unlike_back false true e = refl
-unlike_back false false e = e
-
 pub neg_signed : (b : Bool) (m : ℕ) → neg_ℤ (signed_by b m) ≡ signed_by (not b) m
 neg_signed true m = omega (arith, ints)
 neg_signed false m = refl
+
+-- ---- in units
+pub sign_is : (v : ℤ) → v ≡ signed_by (lt_z v (pos 0)) (nat_abs v)
+sign_is (pos m) = sym (ap (λ (t : Bool). signed_by t m) (le-ltb m 0 (omega arith)))
+sign_is (negsuc m) = refl
+
+apart : (b : Bool) (m n : ℕ) → n ≤ 2 * m → nat_abs (signed_by b m -ℤ signed_by b n) ≤ m
+apart true m n h = omega (arith, ints)
+apart false m n h = omega (arith, ints)
+
+-- no more than twice the magnitude, taken away toward zero, leaves no greater one
+pub left_small : (v : ℤ) (n : ℕ) → n ≤ 2 * nat_abs v → nat_abs (v -ℤ signed_by (lt_z v (pos 0)) n) ≤ nat_abs v
+left_small v n h =
+    let b = lt_z v (pos 0) in
+    subst (λ (z : ℤ). nat_abs (z -ℤ signed_by b n) ≤ nat_abs v) (sym (sign_is v)) (apart b (nat_abs v) n h)
+
+pub signed_times : (b : Bool) (m u : ℕ) → signed_by b m *ℤ pos u ≡ signed_by b (m * u)
+signed_times true zero u = ap (λ (x : ℕ). signed_by false x) (zero-mul u) ∙ sym (ap (signed_by true) (zero-mul u))
+signed_times true (suc m) u = refl
+signed_times false m u = refl
+
+pub in_units : (v : ℤ) (u : ℕ) → v *ℤ pos u ≡ signed_by (lt_z v (pos 0)) (nat_abs v * u)
+in_units v u = ap (λ (z : ℤ). z *ℤ pos u) (sign_is v) ∙ signed_times (lt_z v (pos 0)) (nat_abs v) u
+
+pub sum_times : (a b : ℤ) (u : ℕ) → (a +ℤ b) *ℤ pos u ≡ a *ℤ pos u +ℤ b *ℤ pos u
+sum_times a b u =
+    let e : up (a +ℤ b) + (down a + down b) ≡ down (a +ℤ b) + (up a + up b) = omega (arith, ints) in
+    let t = ap (λ (x : ℕ). x * u) e in
+    omega (arith, ints)
+
+pub difference_times : (a b : ℤ) (u : ℕ) → (a -ℤ b) *ℤ pos u ≡ a *ℤ pos u -ℤ b *ℤ pos u
+difference_times a b u =
+    let e : up (a -ℤ b) + (down a + up b) ≡ down (a -ℤ b) + (up a + down b) = omega (arith, ints) in
+    let t = ap (λ (x : ℕ). x * u) e in
+    omega (arith, ints)
 
 module _ (f : Format) where
   pub nearest_signed : (b : Bool) (m : ℕ) → nearest f (signed_by b m) ≡ signed_by b (nearest_ℕ f m)

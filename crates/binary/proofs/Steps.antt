@@ -63,9 +63,6 @@ module _ {f : Format} {k L D S m shift s : ℕ} (x : Facts f k L D S m shift s) 
   pub top_code_lem : S * L + (2 * L - 1) ≡ top_code f
   top_code_lem = let a : S * L ≡ f.scales * f.lead = ap₂ (λ (x y : ℕ). x * y) e_s e_l in omega (arith, bound_twice f k lay)
 
-  pub top_fits : S * L + (2 * L - 1) < 2 ^ 64
-  top_fits = omega (arith, top_code_lem, scale_fits f k lay f.scales (omega arith), bound_twice f k lay, lay.word, lead_pos f)
-
   short : s ≤ 110
   short =
       elim (dec_le s 110) [
@@ -116,10 +113,10 @@ module _ {f : Format} {k L D S m shift s : ℕ} (x : Facts f k L D S m shift s) 
         lt_of_lt_of_le x.below (le_of_eq (sym (ap (λ (x : ℕ). x * 2 ^ (s - D)) (bound_two f k lay) ∙ sym (pow-add 2 (suc k) (s - D)) ∙ ap (λ (x : ℕ). 2 ^ x) b))),
       )
 
-  pub high_asks : D < s → (m < 2 ^ 126) × ((0 < s - D) × ((s - D < 126) × (m / 2 ^ (s - D) < 2 ^ 63)))
+  pub high_asks : D < s → (m < 2 ^ 126) × (((0 < s - D) × (s - D < 126)) × (m / 2 ^ (s - D) < 2 ^ 63))
   high_asks h =
       let d : m / 2 ^ (s - D) < bound f = (div-lt_iff_lt-mul (pow_pos (s - D))).1 (high h).1 in
-      (omega arith, (omega arith, (omega (arith, short), omega (arith, bound_small))))
+      (omega arith, ((omega arith, omega (arith, short)), omega (arith, bound_small)))
 
   pub high_fits : (n : ℕ) → D < s → s - D ≤ S - shift → n ≡ closest m (2 ^ (s - D))
       → ((shift + (s - D)) * L < 2 ^ 64) × ((shift + (s - D)) * L + n < 2 ^ 64)

@@ -35,5 +35,6 @@ abbrev pub nearest_of : Format → ℤ → ℕ
 nearest_of f v = pattern f (nearest f v)
 
 -- what is nearest to v, and what that leaves
-abbrev pub Settled : Format → ℤ → ℕ → ℕ → Type 0
-Settled f v s r = (s ≡ nearest_of f v) × (r ≡ nearest_of f (v -ℤ nearest f v))
+pub record Settled (f : Format) (v : ℤ) (s r : ℕ) : Type 0 where
+  pub sum : s ≡ nearest_of f v
+  pub rest : r ≡ nearest_of f (v -ℤ nearest f v)

@@ -1,33 +1,30 @@
 //! The adder: the nearest number to a sum, and what remains, in integers of 128 bits.
-ghost use Rattle.std.specs.Prelude.{◌≡◌, ℕ, ◌+◌, ◌*◌, ◌/◌, ◌%◌, ◌^◌, ◌<◌, ◌≤◌, not, T, ◌⊎◌, ◌+ℤ◌};
+ghost use Rattle.std.specs.Prelude.{◌≡◌, ◌+◌, ◌*◌, ◌/◌, ◌%◌, ◌^◌, ◌<◌, ◌≤◌, T, pos, ◌+ℤ◌, ◌-ℤ◌, ◌*ℤ◌, int_lt, unsigned_abs};
 ghost use Rattle.std.specs.Float.Ieee.Nearest.{closest};
-ghost use Rattle.numbers.specs.Nearest.{nearest_ℕ};
+ghost use Rattle.numbers.specs.Nearest.{nearest_ℕ, nearest};
 ghost use Rattle.numbers.specs.Binary.{is_number, code, binary};
 ghost use Rattle.numbers.specs.Coding.{adder};
 ghost use Rattle.register.specs.Value.{meant};
 ghost use Rattle.register.specs.Wrap.{signed_by};
 ghost use Rattle.binary.specs.Canonical.{Canonical};
-ghost use Rattle.binary.specs.Layout.{Settled};
+ghost use Rattle.binary.specs.Layout.{nearest_of, Settled};
 ghost use Rattle.binary.specs.Sums.{Sums};
 
 use crate::format::Binary;
 use crate::patterns::{fits, signed, worth, written};
 use register::Scaled;
 
-// m in units of 2^drop, rounded to the nearest whole number; `odd` is the last bit of what is kept, so that a tie goes to the even one.
-fn rounded(m: u128, drop: u32, odd: u128) -> u64
-    requires { (m < 2 ^ 126) × ((0 < drop) × ((drop < 126) × ((m / 2 ^ drop < 2 ^ 63) × (odd ≡ m / 2 ^ drop % 2)))) }
+// m in units of 2^drop, rounded to the nearest whole number, from halfway to the even one.
+#[tactic(auto, using(crate::proofs::Rounds::rounds))]
+fn rounded(m: u128, drop: u32) -> u64
+    requires size { m < 2 ^ 126 }
+    requires place { (0 < drop) × (drop < 126) }
+    requires word { m / 2 ^ drop < 2 ^ 63 }
     ensures { result ≡ closest m (2 ^ drop) }
 {
     let half = 1u128 << (drop - 1);
+    let odd = (m >> drop) % 2;
     ((m + (half - 1) + odd) >> drop) as u64
-}
-
-fn halved(m: u128, drop: u32) -> u64
-    requires { (m < 2 ^ 126) × ((0 < drop) × ((drop < 126) × (m / 2 ^ drop < 2 ^ 63))) }
-    ensures { result ≡ closest m (2 ^ drop) }
-{
-    rounded(m, drop, (m >> drop) % 2)
 }
 
 // The number nearest to a magnitude: its pattern, and how many of the magnitude's units it is.
@@ -58,7 +55,7 @@ fn nearest_to<B: Binary>(m: u128, shift: u32) -> Near
     let room = B::SCALES - shift;
     let drop = size - digits;
     if drop <= room {
-        let n = halved(m, drop);
+        let n = rounded(m, drop);
         let code = (shift + drop) as u64 * lead + n;
         if fits::<B>(code) {
             return Near {
@@ -73,40 +70,42 @@ fn nearest_to<B: Binary>(m: u128, shift: u32) -> Near
     }
 }
 
-// The sum of two magnitudes with signs, in units of any size.
-fn combined(minus: bool, m: u128, other: bool, n: u128) -> (bool, u128)
-    requires { m + n < 2 ^ 128 }
-    ensures sum { (u : ℕ) → signed_by result.0 (result.1 * u) ≡ signed_by minus (m * u) +ℤ signed_by other (n * u) }
-    ensures size { result.1 ≤ m + n }
+// A magnitude with a sign.
+fn with_sign(negative: bool, magnitude: u128) -> i128
+    requires { magnitude < 2 ^ 127 }
+    ensures value { result ≡ signed_by negative magnitude }
+    ensures size { unsigned_abs result ≡ magnitude }
 {
-    if minus == other {
-        (minus, m + n)
-    } else if n <= m {
-        (minus, m - n)
-    } else {
-        (other, n - m)
-    }
+    let m = magnitude as i128;
+    if negative { -m } else { m }
 }
 
-// The number nearest to a magnitude with a sign, and what remains; `away` is the other sign, with which the nearest is taken away.
-fn settled_with<B: Binary>(negative: bool, away: bool, m: u128, shift: u32) -> (u64, u64)
-    requires { (m < 2 ^ 108) × ((shift ≤ B.Binary.format.scales) × (away ≡ not negative)) }
-    ensures { Settled B.Binary.format (signed_by negative (m * 2 ^ shift)) result.0 result.1 }
+// What is left of a sum when so many units of its own sign are taken away.
+fn left(sum: i128, units: u128) -> i128
+    requires { (unsigned_abs sum < 2 ^ 126) × (units < 2 ^ 126) }
+    ensures { result ≡ sum -ℤ signed_by (int_lt sum (pos 0)) units }
 {
-    let found = nearest_to::<B>(m, shift);
-    let (minus, left) = combined(negative, m, away, found.units);
-    let rest = nearest_to::<B>(left, shift);
-    (
-        signed::<B>(negative, found.code),
-        signed::<B>(minus, rest.code),
-    )
+    sum - with_sign(sum < 0, units)
 }
 
-fn settled<B: Binary>(negative: bool, m: u128, shift: u32) -> (u64, u64)
-    requires { (m < 2 ^ 108) × (shift ≤ B.Binary.format.scales) }
-    ensures { Settled B.Binary.format (signed_by negative (m * 2 ^ shift)) result.0 result.1 }
+// The pattern of the number nearest to a sum in units of 2^shift, and how many of the units it leaves.
+fn nearest<B: Binary>(sum: i128, shift: u32) -> (u64, i128)
+    requires { (unsigned_abs sum < 2 ^ 110) × (shift ≤ B.Binary.format.scales) }
+    ensures pattern { result.0 ≡ nearest_of B.Binary.format (sum *ℤ pos (2 ^ shift)) }
+    ensures rest { result.1 *ℤ pos (2 ^ shift) ≡ sum *ℤ pos (2 ^ shift) -ℤ nearest B.Binary.format (sum *ℤ pos (2 ^ shift)) }
+    ensures size { unsigned_abs result.1 ≤ unsigned_abs sum }
 {
-    settled_with::<B>(negative, !negative, m, shift)
+    let found = nearest_to::<B>(sum.unsigned_abs(), shift);
+    (signed::<B>(sum < 0, found.code), left(sum, found.units))
+}
+
+// The number nearest to a sum, and the one that remains.
+fn settled<B: Binary>(sum: i128, shift: u32) -> (u64, u64)
+    requires { (unsigned_abs sum < 2 ^ 110) × (shift ≤ B.Binary.format.scales) }
+    ensures { Settled B.Binary.format (sum *ℤ pos (2 ^ shift)) result.0 result.1 }
+{
+    let (pattern, rest) = nearest::<B>(sum, shift);
+    (pattern, nearest::<B>(rest, shift).0)
 }
 
 // The adder on worths, of which the first has the greater shift.
@@ -120,26 +119,22 @@ fn joined<B: Binary>(x: Scaled, y: Scaled) -> (u64, u64)
     if gap > B::FRACTION + 2 {
         return (written::<B>(x), written::<B>(y));
     }
-    let big = (x.magnitude as u128) << gap;
-    let (negative, m) = combined(x.negative, big, y.negative, y.magnitude as u128);
-    settled::<B>(negative, m, y.shift)
+    let sum = with_sign(x.negative, (x.magnitude as u128) << gap)
+        + with_sign(y.negative, y.magnitude as u128);
+    settled::<B>(sum, y.shift)
 }
 
-// Two worths, the one with the greater shift first.
-fn ordered(x: Scaled, y: Scaled) -> (Scaled, Scaled)
-    ensures order { result.1.shift ≤ result.0.shift }
-    ensures both { ((result.0 ≡ x) × (result.1 ≡ y)) ⊎ ((result.0 ≡ y) × (result.1 ≡ x)) }
+// The adder on worths.
+fn summed<B: Binary>(x: Scaled, y: Scaled) -> (u64, u64)
+    requires first { Canonical B.Binary.format x.magnitude x.shift }
+    requires second { Canonical B.Binary.format y.magnitude y.shift }
+    ensures { Settled B.Binary.format (meant x +ℤ meant y) result.0 result.1 }
 {
-    if y.shift <= x.shift { (x, y) } else { (y, x) }
-}
-
-fn added<B: Binary>(a: u64, b: u64) -> (u64, u64)
-    requires { (T (is_number B.Binary.format a)) × (T (is_number B.Binary.format b)) }
-    ensures value { result ≡ adder (binary B.Binary.format) a b }
-    ensures relation { Sums B.Binary.format a b result.0 result.1 }
-{
-    let (x, y) = ordered(worth::<B>(a), worth::<B>(b));
-    joined::<B>(x, y)
+    if y.shift <= x.shift {
+        joined::<B>(x, y)
+    } else {
+        joined::<B>(y, x)
+    }
 }
 
 /// The number nearest to the sum of two, and the number that remains of it.
@@ -148,5 +143,5 @@ pub fn add<B: Binary>(a: u64, b: u64) -> (u64, u64)
     ensures value { result ≡ adder (binary B.Binary.format) a b }
     ensures relation { Sums B.Binary.format a b result.0 result.1 }
 {
-    added::<B>(a, b)
+    summed::<B>(worth::<B>(a), worth::<B>(b))
 }

@@ -39,25 +39,25 @@ returns-then-size-digits g c =
     let t = step.low_near x c.min-up.result c.if-size-digits.true c.min-up.ensures in
     record { code = t.0; units = t.1 }
 
-pub halved-n-requires : goal.halved-n-requires
-halved-n-requires g c =
+pub rounded-n-requires : goal.rounded-n-requires
+rounded-n-requires g c =
     let x = known g.B.Binary.layout c.lead-lead.ensures c.FRACTION-digits.ensures (c.SCALES.ensures ∙ g.B.Binary.greatest) c.requires.1 c.if-m-eq0.false c.requires.0 in
-    step.high_asks x c.if-size-digits.false
+    let h = step.high_asks x c.if-size-digits.false in record { size = h.0; place = h.1.0; word = h.1.1 }
 
 pub overflow_mul-code : goal.overflow_mul-code
 overflow_mul-code g c =
     let x = known g.B.Binary.layout c.lead-lead.ensures c.FRACTION-digits.ensures (c.SCALES.ensures ∙ g.B.Binary.greatest) c.requires.1 c.if-m-eq0.false c.requires.0 in
-    omega (arith, (step.high_fits x c.halved-n.result c.if-size-digits.false c.if-drop-room.true c.halved-n.ensures).0)
+    omega (arith, (step.high_fits x c.rounded-n.result c.if-size-digits.false c.if-drop-room.true c.rounded-n.ensures).0)
 
 pub overflow_add-code-then-drop-room : goal.overflow_add-code-then-drop-room
 overflow_add-code-then-drop-room g c =
     let x = known g.B.Binary.layout c.lead-lead.ensures c.FRACTION-digits.ensures (c.SCALES.ensures ∙ g.B.Binary.greatest) c.requires.1 c.if-m-eq0.false c.requires.0 in
-    omega (arith, (step.high_fits x c.halved-n.result c.if-size-digits.false c.if-drop-room.true c.halved-n.ensures).1)
+    omega (arith, (step.high_fits x c.rounded-n.result c.if-size-digits.false c.if-drop-room.true c.rounded-n.ensures).1)
 
 pub returns-then-fits : goal.returns-then-fits
 returns-then-fits g c =
     let x = known g.B.Binary.layout c.lead-lead.ensures c.FRACTION-digits.ensures (c.SCALES.ensures ∙ g.B.Binary.greatest) c.requires.1 c.if-m-eq0.false c.requires.0 in
-    let t = step.high_near x c.halved-n.result c.if-size-digits.false c.if-drop-room.true c.halved-n.ensures (omega (arith, step.top_code_lem x, true-leb _ _ c.if-fits.ensures)) in
+    let t = step.high_near x c.rounded-n.result c.if-size-digits.false c.if-drop-room.true c.rounded-n.ensures (omega (arith, step.top_code_lem x, true-leb _ _ c.if-fits.ensures)) in
     record { code = t.0; units = t.1 }
 
 pub overflow_shl-result-2 : goal.overflow_shl-result-2
@@ -66,7 +66,7 @@ overflow_shl-result-2 g c =
     let t : Top g.B.Binary.format c.args.m c.args.shift =
     elim c.if-drop-room.branch [
       | then-drop-room+else-fits w ↦
-          step.past_top x w.halved-n.result c.if-size-digits.false w.if-drop-room.true w.halved-n.ensures (omega (arith, step.top_code_lem x, false-leb _ _ w.if-fits.ensures))
+          step.past_top x w.rounded-n.result c.if-size-digits.false w.if-drop-room.true w.rounded-n.ensures (omega (arith, step.top_code_lem x, false-leb _ _ w.if-fits.ensures))
       | else-drop-room w ↦ step.no_room x c.if-size-digits.false w.if-drop-room.false
     ] in
     omega (arith, step.top_shift x t)
@@ -77,7 +77,7 @@ returns g c =
     let t : Top g.B.Binary.format c.args.m c.args.shift =
     elim c.if-drop-room.branch [
       | then-drop-room+else-fits w ↦
-          step.past_top x w.halved-n.result c.if-size-digits.false w.if-drop-room.true w.halved-n.ensures (omega (arith, step.top_code_lem x, false-leb _ _ w.if-fits.ensures))
+          step.past_top x w.rounded-n.result c.if-size-digits.false w.if-drop-room.true w.rounded-n.ensures (omega (arith, step.top_code_lem x, false-leb _ _ w.if-fits.ensures))
       | else-drop-room w ↦ step.no_room x c.if-size-digits.false w.if-drop-room.false
     ] in
     let n = step.top_near x t in
