@@ -5,18 +5,18 @@ use lib.Signed.{lt_z}
 use Rattle.std.proofs.lemmas.Nat.{shl_below}
 use Rattle.numbers.specs.Format.{Format, unit, Held, Holds}
 use Rattle.numbers.specs.Nearest.{nearest_ℕ, nearest}
-use Rattle.numbers.specs.Binary.{code, pattern}
+use Rattle.numbers.specs.Binary.{code, pattern, sign_bit}
 use Rattle.numbers.proofs.Nearest.{nearest_ℕ_held}
 use Rattle.numbers.proofs.Signed.{nearest_of_held}
 use Rattle.numbers.proofs.Adding.{absorbed}
 use Rattle.numbers.proofs.Words.{unit_is}
-use Rattle.numbers.proofs.Binary.{code_of}
-use Rattle.register.specs.Wrap.{signed_by}
+use Rattle.numbers.proofs.Binary.{lead_pos, code_of}
+use Rattle.register.specs.Wrap.{signed_by, scaled}
 use Rattle.binary.specs.Layout.{Layout, signed_code, nearest_of, Settled}
 use Rattle.register.specs.Value.{meant}
 use Rattle.binary.specs.Canonical.{Canonical}
 use Rattle.register.specs.declared.scaled.Scaled.{Scaled as Number}
-use Rattle.binary.proofs.Nearby.{bound_two}
+use Rattle.binary.proofs.Nearby.{bound_two, bound_twice, scale_fits}
 use Rattle.binary.proofs.Signs.{abs_signed, sum_times, difference_times, signed_times, in_units, nearest_signed, pattern_signed}
 
 module _ (f : Format) (k : ℕ) (lay : Layout f k) where
@@ -52,11 +52,21 @@ module _ (f : Format) (k : ℕ) (lay : Layout f k) where
   pub worth_held : (w : Number) → Canonical f w.magnitude w.shift → Holds f (meant w)
   worth_held w c = subst (Held f) (sym (abs_signed w.negative (w.magnitude * 2 ^ w.shift))) (held w c)
 
-  pub written_is : (w : Number) (c s : ℕ) → Canonical f w.magnitude w.shift → c ≡ w.shift * f.lead + w.magnitude → s ≡ signed_code f w.negative c → s ≡ pattern f (meant w)
-  written_is w c s k a b =
-      let e : code f (w.magnitude * 2 ^ w.shift) ≡ c =
-      ap (λ (x : ℕ). code f (w.magnitude * x)) (sym (unit_is f lay.binary w.shift)) ∙ code_of f w.magnitude w.shift k.small k.within k.needs ∙ sym a in
-      b ∙ ap (signed_code f w.negative) (sym e) ∙ sym (pattern_signed f lay.binary w.negative (w.magnitude * 2 ^ w.shift) (held w k))
+  module _ (n : Bool) (m q l r : ℕ) (c : Canonical f m q) (e : l ≡ f.lead) where
+    as_is : q * l + m ≡ q * f.lead + m
+    as_is = ap (λ (x : ℕ). q * x + m) e
+
+    pub written_below : q * l + m < sign_bit f
+    written_below = omega (arith, as_is, scale_fits f k lay q c.within, c.small, bound_twice f k lay, lead_pos f)
+
+    pub written_fits : q * l + m < 2 ^ 64
+    written_fits = omega (arith, written_below, lay.word)
+
+    pub written_is : r ≡ signed_code f n (q * l + m) → r ≡ pattern f (scaled n m q)
+    written_is h =
+        let w : Number = record { negative = n; magnitude = m; shift = q; low = omega (arith, c.within, lay.short) } in
+        let z : code f (m * 2 ^ q) ≡ q * l + m = ap (λ (x : ℕ). code f (m * x)) (sym (unit_is f lay.binary q)) ∙ code_of f m q c.small c.within c.needs ∙ sym as_is in
+        h ∙ ap (signed_code f n) (sym z) ∙ sym (pattern_signed f lay.binary n (m * 2 ^ q) (held w c))
 
   module _ (x y : Number) (cx : Canonical f x.magnitude x.shift) (cy : Canonical f y.magnitude y.shift) where
     -- ---- far apart
@@ -112,3 +122,5 @@ module _ (f : Format) (k : ℕ) (lay : Layout f k) where
           ap (λ (z : ℤ). z *ℤ pos u) e
           ∙ sum_times (signed_by x.negative b) (signed_by y.negative y.magnitude) u
           ∙ ap₂ ◌+ℤ◌ (signed_times x.negative b u ∙ ap (signed_by x.negative) (lined b big_is)) (signed_times y.negative y.magnitude u)
+
+pub ruleset writes = (written_below, written_fits, written_is)

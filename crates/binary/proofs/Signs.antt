@@ -1,5 +1,5 @@
 -- Signs: the pattern of a magnitude with a sign, and sums of such.
-use Rattle.std.proofs.Common.{◌≡◌, ℕ, zero, suc, ◌+◌, ◌*◌, ◌<◌, ◌≤◌, Bool, true, false, cond, not, ◌&&◌, ltb, ℤ, pos, negsuc, ◌+ℤ◌, ◌-ℤ◌, ◌*ℤ◌, neg_ℤ, nat_abs, sym, refl, ap, ◌∙◌, subst, zero-mul, arith, lt-ltb, le-ltb}
+use Rattle.std.proofs.Common.{◌≡◌, ℕ, zero, suc, ◌+◌, ◌*◌, ◌^◌, ◌<◌, ◌≤◌, Bool, true, false, cond, not, ◌&&◌, ltb, ℤ, pos, negsuc, ◌+ℤ◌, ◌-ℤ◌, ◌*ℤ◌, neg_ℤ, nat_abs, sym, refl, ap, ◌∙◌, subst, zero-mul, arith, lt-ltb, le-ltb}
 use borrow.Author.Differences.{ints, up, down}
 use lib.Signed.{lt_z}
 use Rattle.numbers.specs.Format.{Format, Held}
@@ -7,16 +7,19 @@ use Rattle.numbers.specs.Nearest.{nearest_ℕ, nearest}
 use Rattle.numbers.specs.Binary.{code, pattern, sign_bit, magnitude}
 use Rattle.numbers.proofs.Signed.{nearest_neg, abs_neg, held_zero}
 use Rattle.numbers.proofs.Binary.{code_zero, magnitude_of_code}
-use Rattle.register.specs.Wrap.{signed_by}
+use Rattle.register.specs.Wrap.{signed_by, scaled}
 use Rattle.binary.specs.Layout.{signed_code}
 
 pub abs_signed : (b : Bool) (m : ℕ) → nat_abs (signed_by b m) ≡ m
 abs_signed true m = abs_neg (pos m)
 abs_signed false m = refl
 
-pub neg_signed : (b : Bool) (m : ℕ) → neg_ℤ (signed_by b m) ≡ signed_by (not b) m
+neg_signed : (b : Bool) (m : ℕ) → neg_ℤ (signed_by b m) ≡ signed_by (not b) m
 neg_signed true m = omega (arith, ints)
 neg_signed false m = refl
+
+pub turned : (f : Format) (z : ℤ) (b : Bool) (m s r : ℕ) → r ≡ pattern f (scaled (not b) m s) → scaled b m s ≡ z → r ≡ pattern f (neg_ℤ z)
+turned f z b m s r h e = h ∙ ap (pattern f) (sym (neg_signed b (m * 2 ^ s)) ∙ ap neg_ℤ e)
 
 -- ---- in units
 pub sign_is : (v : ℤ) → v ≡ signed_by (lt_z v (pos 0)) (nat_abs v)
