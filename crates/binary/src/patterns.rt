@@ -1,6 +1,6 @@
 //! Patterns and what they are worth.
-ghost use Rattle.std.specs.Prelude.{◌≡◌, ◌+◌, ◌*◌, ◌/◌, ◌%◌, ◌<◌, not, T, nat_le};
-ghost use Rattle.numbers.specs.Binary.{sign_bit, is_number, field_e, field_f, unsigned, worth, pattern, binary, BinaryPatterns};
+ghost use Rattle.std.specs.Prelude.{◌≡◌, ◌<◌, T, nat_le};
+ghost use Rattle.numbers.specs.Binary.{sign_bit, is_number, worth, pattern, binary, BinaryPatterns};
 ghost use Rattle.numbers.specs.Coding.{opposite as opposite_of};
 ghost use Rattle.register.specs.Value.{meant};
 ghost use Rattle.binary.specs.Canonical.{Canonical};

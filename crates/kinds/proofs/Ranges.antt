@@ -1,7 +1,8 @@
 -- The steps of a reading, over the values that its code holds.
-use Rattle.std.proofs.Common.{◌≡◌, ℕ, suc, ◌+◌, ◌-◌, ◌*◌, ◌/◌, ◌%◌, ◌^◌, ◌<◌, ◌≤◌, Bool, true, false, cond, ltb, leb, ℤ, pos, negsuc, nat_abs, Some, None, Ok, Err, sym, refl, ap, ◌∙◌, subst, inl, le_trans, le_of_eq, lt_of_lt_of_le, mod-eq_of_lt, div-lt_iff_lt-mul, zero-add, mul-one, div-one, arith, pow_pos, pow_mono, pow-add, ltb-false, ltb-true, le-ltb, lt-ltb, leb-false, leb-true}
+use Rattle.std.proofs.Common.{◌≡◌, ℕ, suc, ◌+◌, ◌-◌, ◌*◌, ◌/◌, ◌%◌, ◌^◌, ◌<◌, ◌≤◌, Bool, true, false, cond, ltb, leb, ℤ, pos, nat_abs, Some, None, Ok, Err, Option, sym, refl, ap, ◌∙◌, subst, ap₂, inl, le_trans, le_of_eq, lt_of_lt_of_le, lt_of_le_of_lt, mod-eq_of_lt, div-lt_iff_lt-mul, zero-add, mul-one, div-one, arith, pow_pos, pow_mono, pow-add, ltb-false, ltb-true, le-ltb, lt-ltb, leb-false, leb-true}
 use native.Mathlib.Decide.{dec_le}
 use borrow.Author.Differences.{ints}
+use Rattle.std.specs.Bool.{then_some}
 use lib.Signed.{lt_z}
 use lib.Ieee.Nearest.{closest}
 use Rattle.numbers.specs.Format.{Format, bound}
@@ -14,11 +15,13 @@ use Rattle.numbers.proofs.Binary.{lead_pos}
 use Rattle.register.specs.Limbs.{Rounded, LeastBits}
 use Rattle.register.specs.Wrap.{signed_by}
 use Rattle.binary.specs.Layout.{Layout, top_code, signed_code, nearest_of}
-use Rattle.binary.proofs.Nearby.{bound_two, bound_twice, exact, rounded, few, scale_fits}
+use Rattle.binary.proofs.Nearby.{bound_two, bound_twice, exact, rounded, few, scale_fits, code_small}
+use Rattle.binary.proofs.Signs.{sign_is}
 use Rattle.binary.proofs.Joins.{sum_is}
 use Rattle.kinds.proofs.Edges.{closest_of, out_long, in_short, in_edge, out_edge}
 use Rattle.kinds.specs.Answer.{answered}
 use Rattle.kinds.specs.Range.{code_in_range}
+use Rattle.refusals.specs.declared.Refusal.{Refusal}
 use Rattle.refusals.specs.declared.Refusal.TheVariants.{AboveRange, BelowRange}
 
 module _ (f : Format) (m : ℕ) where
@@ -35,101 +38,105 @@ reaches m s b p =
       | no h ↦ let l : s ≤ s - 1 = b.least (s - 1) (omega arith) in absurd (omega arith)
     ]
 
-module _ (f : Format) (k : ℕ) (lay : Layout f k) (m s : ℕ) (size : LeastBits m s) where
-  pub bound_small : bound f ≤ 2 ^ 53
+-- ---- the steps, over the values that the code holds: w for the fraction's bits, L for the lead, S for the greatest scale, s for the bits of m
+module _ (f : Format) (k : ℕ) (lay : Layout f k) (m s w : ℕ) (size : LeastBits m s) (e_w : w ≡ k) where
+  bound_small : bound f ≤ 2 ^ 53
   bound_small = let h : suc k ≤ 53 = omega (arith, lay.narrow) in le_trans (le_of_eq (bound_two f k lay)) (pow_mono h)
 
   -- ---- few digits
-  pub whole : s ≤ suc k → Some ((m / 2 ^ 0) % 2 ^ 64) ≡ code_in_range f m
-  whole l =
-      let b : m < bound f = lt_of_lt_of_le size.enough (le_trans (pow_mono l) (le_of_eq (sym (bound_two f k lay)))) in
+  pub whole : (c : ℕ) → s ≤ w + 1 → c ≡ m / 2 ^ 0 % 2 ^ 64 → Some c ≡ code_in_range f m
+  whole c l e =
+      let n : s ≤ suc k = omega arith in
+      let b : m < bound f = lt_of_lt_of_le size.enough (le_trans (pow_mono n) (le_of_eq (sym (bound_two f k lay)))) in
       let o : m * 2 ^ 0 ≡ m = mul-one m in
       let x = exact f k lay m 0 0 (omega arith) (omega arith) (subst (λ (y : ℕ). y < bound f) (sym o) b) (inl refl) in
-      let w : m % 2 ^ 64 ≡ m = mod-eq_of_lt (let h : m < 2 ^ 64 = omega (arith, bound_small) in h) in
-      inside f m ((m / 2 ^ 0) % 2 ^ 64) (in_short f k lay m b)
-      (ap (λ (y : ℕ). code f (nearest_ℕ f y)) (sym o) ∙ x.0 ∙ omega (arith, o) ∙ sym (ap (λ (y : ℕ). y % 2 ^ 64) (div-one m) ∙ w))
+      let r : m % 2 ^ 64 ≡ m = mod-eq_of_lt (let h : m < 2 ^ 64 = omega (arith, bound_small) in h) in
+      inside f m c (in_short f k lay m b)
+      (ap (λ (y : ℕ). code f (nearest_ℕ f y)) (sym o) ∙ x.0 ∙ omega (arith, o) ∙ sym (e ∙ ap (λ (y : ℕ). y % 2 ^ 64) (div-one m) ∙ r))
 
   -- ---- more digits
-  module _ (more : suc k < s) where
-    high : (f.lead * 2 ^ (s - suc k) ≤ m) × (m < bound f * 2 ^ (s - suc k))
+  module _ (more : w + 1 < s) where
+    high : (f.lead * 2 ^ (s - (w + 1)) ≤ m) × (m < bound f * 2 ^ (s - (w + 1)))
     high =
-        let d = s - suc k in
+        let d = s - (w + 1) in
         let a : k + d ≡ s - 1 = omega arith in
         let b : suc k + d ≡ s = omega arith in (
           le_trans (le_of_eq (ap (λ (x : ℕ). x * 2 ^ d) lay.power ∙ sym (pow-add 2 k d) ∙ ap (λ (x : ℕ). 2 ^ x) a)) (reaches m s size (omega arith)),
           lt_of_lt_of_le size.enough (le_of_eq (sym (ap (λ (x : ℕ). x * 2 ^ d) (bound_two f k lay) ∙ sym (pow-add 2 (suc k) d) ∙ ap (λ (x : ℕ). 2 ^ x) b))),
         )
 
-    pub long : f.scales < s - suc k → None ≡ code_in_range f m
-    long l = outside f m (out_long f k lay m (s - suc k) l high.0)
+    pub part : m / 2 ^ (s - (w + 1)) < 2 ^ 63
+    part = let d : m / 2 ^ (s - (w + 1)) < bound f = (div-lt_iff_lt-mul (pow_pos (s - (w + 1)))).1 high.1 in omega (arith, bound_small)
 
-    pub part : m / 2 ^ (s - suc k) < 2 ^ 63
-    part = let d : m / 2 ^ (s - suc k) < bound f = (div-lt_iff_lt-mul (pow_pos (s - suc k))).1 high.1 in omega (arith, bound_small)
+    module _ (S : ℕ) (e_s : S ≡ f.scales) where
+      pub long : S < s - (w + 1) → None ≡ code_in_range f m
+      long l = outside f m (out_long f k lay m (s - (w + 1)) (omega arith) high.0)
 
-    module _ (fits : s - suc k ≤ f.scales) (n : ℕ) (r : Rounded m (2 ^ (s - suc k)) n) where
-      near : n ≡ closest m (2 ^ (s - suc k))
-      near = closest_of m (2 ^ (s - suc k)) n (pow_pos (s - suc k)) r
+      module _ (L n : ℕ) (e_l : L ≡ f.lead) (fits : s - (w + 1) ≤ S) (r : Rounded m (2 ^ (s - (w + 1))) n) where
+        near : n ≡ closest m (2 ^ (s - (w + 1)))
+        near = closest_of m (2 ^ (s - (w + 1))) n (pow_pos (s - (w + 1))) r
 
-      pub code_fits : (s - suc k) * f.lead + n < sign_bit f
-      code_fits =
-          let a : closest m (2 ^ (s - suc k)) ≤ bound f = few f k lay m (s - suc k) high.1 in
-          omega (arith, near, scale_fits f k lay (s - suc k) fits, bound_twice f k lay, lead_pos f)
+        times : (s - (w + 1)) * L ≡ (s - (w + 1)) * f.lead
+        times = ap (λ (x : ℕ). (s - (w + 1)) * x) e_l
 
-      middle : (s - suc k) * f.lead + n ≤ top_code f → Some ((s - suc k) * f.lead + n) ≡ code_in_range f m
-      middle h =
-          let d = s - suc k in
-          let e : d * f.lead + n ≡ d * f.lead + closest m (2 ^ d) = ap (λ (x : ℕ). d * f.lead + x) near in
-          let z : 0 + d ≡ d = zero-add d in
-          let y = rounded f k lay m 0 d (omega arith) high.0 high.1 (subst (λ (x : ℕ). x * f.lead + closest m (2 ^ d) ≤ top_code f) (sym z) (omega arith)) in
-          inside f m (d * f.lead + n) (in_edge f k lay m d fits high.1 (omega arith))
-          (ap (λ (x : ℕ). code f (nearest_ℕ f x)) (sym (mul-one m)) ∙ y.0 ∙ ap (λ (x : ℕ). x * f.lead + closest m (2 ^ d)) z ∙ sym e)
+        pub code_fits : (s - (w + 1)) * L + n < 2 ^ 64
+        code_fits =
+            let a : closest m (2 ^ (s - (w + 1))) ≤ bound f = few f k lay m (s - (w + 1)) high.1 in
+            omega (arith, times, near, scale_fits f k lay (s - (w + 1)) (omega arith), bound_twice f k lay, lead_pos f, lay.word)
 
-      over : top_code f < (s - suc k) * f.lead + n → None ≡ code_in_range f m
-      over h =
-          let d = s - suc k in
-          let e : d * f.lead + n ≡ d * f.lead + closest m (2 ^ d) = ap (λ (x : ℕ). d * f.lead + x) near in
-          outside f m (out_edge f k lay m d fits high.1 (omega arith))
+        is_closest : (s - (w + 1)) * L + n ≡ (s - (w + 1)) * f.lead + closest m (2 ^ (s - (w + 1)))
+        is_closest = ap₂ ◌+◌ times near
 
-      pub last : (c : ℕ) → c ≡ (s - suc k) * f.lead + n → cond (leb c (top_code f)) (Some c) None ≡ code_in_range f m
-      last c e = go (leb c (top_code f)) refl
-        where
-          go : (t : Bool) → leb c (top_code f) ≡ t → cond t (Some c) None ≡ code_in_range f m
-          go true t = ap Some e ∙ middle (omega (arith, leb-true c (top_code f) t))
-          go false t = over (omega (arith, leb-false c (top_code f) t))
+        middle : (s - (w + 1)) * L + n ≤ top_code f → Some ((s - (w + 1)) * L + n) ≡ code_in_range f m
+        middle h =
+            let d = s - (w + 1) in
+            let z : 0 + d ≡ d = zero-add d in
+            let y = rounded f k lay m 0 d (omega arith) high.0 high.1 (subst (λ (x : ℕ). x * f.lead + closest m (2 ^ d) ≤ top_code f) (sym z) (omega (arith, is_closest))) in
+            inside f m (d * L + n) (in_edge f k lay m d (omega arith) high.1 (omega (arith, is_closest)))
+            (ap (λ (x : ℕ). code f (nearest_ℕ f x)) (sym (mul-one m)) ∙ y.0 ∙ ap (λ (x : ℕ). x * f.lead + closest m (2 ^ d)) z ∙ sym is_closest)
+
+        over : top_code f < (s - (w + 1)) * L + n → None ≡ code_in_range f m
+        over h = outside f m (out_edge f k lay m (s - (w + 1)) (omega arith) high.1 (omega (arith, is_closest)))
+
+        pub last : (o : Option ℕ) → o ≡ then_some (leb ((s - (w + 1)) * L + n) (top_code f)) ((s - (w + 1)) * L + n) → o ≡ code_in_range f m
+        last o e = e ∙ go (leb ((s - (w + 1)) * L + n) (top_code f)) refl
+          where
+            go : (t : Bool) → leb ((s - (w + 1)) * L + n) (top_code f) ≡ t → then_some t ((s - (w + 1)) * L + n) ≡ code_in_range f m
+            go true h = middle (omega (arith, leb-true ((s - (w + 1)) * L + n) (top_code f) h))
+            go false h = over (omega (arith, leb-false ((s - (w + 1)) * L + n) (top_code f) h))
+
+pub ruleset ranges = (whole, part, long)
 
 -- ---- with the sign
-module _ (f : Format) (v : ℤ) where
-  sign_is : v ≡ signed_by (lt_z v (pos 0)) (nat_abs v)
-  sign_is = go v
+module _ (f : Format) (k : ℕ) (lay : Layout f k) (v : ℤ) (m : ℕ) (o : Option ℕ) (n : Bool) (is : m ≡ nat_abs v) (e : o ≡ code_in_range f m) (sign : n ≡ lt_z v (pos 0)) where
+  in_parts : (c : ℕ) → o ≡ Some c → (nat_abs v < edge f) × (c ≡ code f (nearest_ℕ f (nat_abs v)))
+  in_parts c i = go (ltb (nat_abs v) (edge f)) refl (sym i ∙ e ∙ ap (code_in_range f) is)
     where
-      go : (v : ℤ) → v ≡ signed_by (lt_z v (pos 0)) (nat_abs v)
-      go (pos m) = sym (ap (λ (t : Bool). signed_by t m) (le-ltb m 0 (omega arith)))
-      go (negsuc m) = refl
+      go : (t : Bool) → ltb (nat_abs v) (edge f) ≡ t → Some c ≡ cond t (Some (code f (nearest_ℕ f (nat_abs v)))) None → (nat_abs v < edge f) × (c ≡ code f (nearest_ℕ f (nat_abs v)))
+      go true t h = (omega (arith, ltb-true (nat_abs v) (edge f) t), cc)
+      go false t h = absurd (let z : ◌≡◌ {A = ℕ} 0 1 = cc in omega arith)
 
-  cut : (c : ℕ) (t : Bool) → ltb (nat_abs v) (edge f) ≡ t → Some c ≡ cond t (Some (code f (nearest_ℕ f (nat_abs v)))) None → (nat_abs v < edge f) × (c ≡ code f (nearest_ℕ f (nat_abs v)))
-  cut c true e h = (omega (arith, ltb-true (nat_abs v) (edge f) e), cc)
-  cut c false e h = absurd (let z : ◌≡◌ {A = ℕ} 0 1 = cc in omega arith)
+  out : o ≡ None → edge f ≤ nat_abs v
+  out i = go (ltb (nat_abs v) (edge f)) refl (sym i ∙ e ∙ ap (code_in_range f) is)
+    where
+      go : (t : Bool) → ltb (nat_abs v) (edge f) ≡ t → None ≡ cond t (Some (code f (nearest_ℕ f (nat_abs v)))) None → edge f ≤ nat_abs v
+      go true t h = absurd (let z : ◌≡◌ {A = ℕ} 0 1 = cc in omega arith)
+      go false t h = ltb-false (nat_abs v) (edge f) t
 
-  pub in_parts : (c : ℕ) → Some c ≡ code_in_range f (nat_abs v) → (nat_abs v < edge f) × (c ≡ code f (nearest_ℕ f (nat_abs v)))
-  in_parts c h = cut c (ltb (nat_abs v) (edge f)) refl h
+  pub code_below : (c : ℕ) → o ≡ Some c → c < sign_bit f
+  code_below c i = lt_of_le_of_lt (le_of_eq (in_parts c i).1) (code_small f k lay (nat_abs v))
 
-  pub read : (k : ℕ) → Layout f k → (c s : ℕ) (negative : Bool) → Some c ≡ code_in_range f (nat_abs v) → negative ≡ lt_z v (pos 0) → s ≡ signed_code f negative c
-      → Ok s ≡ answered (outcome (binary f) v)
-  read k lay c s negative h n e =
-      let x = in_parts c h in
-      ap Ok (sum_is f k lay negative (nat_abs v) c s x.1 e ∙ ap (nearest_of f) (ap (λ (t : Bool). signed_by t (nat_abs v)) n ∙ sym sign_is))
+  pub read : (c s : ℕ) → o ≡ Some c → s ≡ signed_code f n c → Ok s ≡ answered (outcome (binary f) v)
+  read c s i h =
+      let x = in_parts c i in
+      ap Ok (sum_is f k lay n (nat_abs v) c s x.1 h ∙ ap (nearest_of f) (ap (λ (t : Bool). signed_by t (nat_abs v)) sign ∙ sym (sign_is v)))
       ∙ sym (ap (λ (o : Outcome ℤ). answered (told_by (pattern f) o)) (outcome_inside f v x.0))
 
-  out : (t : Bool) → ltb (nat_abs v) (edge f) ≡ t → None ≡ cond t (Some (code f (nearest_ℕ f (nat_abs v)))) None → edge f ≤ nat_abs v
-  out true e h = absurd (let z : ◌≡◌ {A = ℕ} 0 1 = cc in omega arith)
-  out false e h = ltb-false (nat_abs v) (edge f) e
+  pub read_past : (r : Refusal) → o ≡ None → r ≡ cond n BelowRange AboveRange → Err r ≡ answered (outcome (binary f) v)
+  read_past r i h = go n sign h
+    where
+      go : (t : Bool) → t ≡ lt_z v (pos 0) → r ≡ cond t BelowRange AboveRange → Err r ≡ answered (outcome (binary f) v)
+      go true s h = let l = out i in ap Err h ∙ sym (ap (λ (o : Outcome ℤ). answered (told_by (pattern f) o)) (outcome_under f v (omega (arith, ints))))
+      go false s h = let l = out i in ap Err h ∙ sym (ap (λ (o : Outcome ℤ). answered (told_by (pattern f) o)) (outcome_over f v (omega (arith, ints))))
 
-  pub read_above : None ≡ code_in_range f (nat_abs v) → lt_z v (pos 0) ≡ false → Err AboveRange ≡ answered (outcome (binary f) v)
-  read_above h s =
-      let l = out (ltb (nat_abs v) (edge f)) refl h in
-      sym (ap (λ (o : Outcome ℤ). answered (told_by (pattern f) o)) (outcome_over f v (omega (arith, ints))))
-
-  pub read_below : None ≡ code_in_range f (nat_abs v) → lt_z v (pos 0) ≡ true → Err BelowRange ≡ answered (outcome (binary f) v)
-  read_below h s =
-      let l = out (ltb (nat_abs v) (edge f)) refl h in
-      sym (ap (λ (o : Outcome ℤ). answered (told_by (pattern f) o)) (outcome_under f v (omega (arith, ints))))
+pub ruleset readings = (code_below, read, read_past)

@@ -1,18 +1,21 @@
 -- The count kind's meanings, by ranges: what its code computes.
 use Rattle.std.specs.Prelude.{◌≡◌, ℕ, suc, ◌-◌, ◌/◌, ◌%◌, ◌^◌, ◌<◌, ◌≤◌, min, Bool, true, false, cond, not, ◌&&◌, T, ℤ, pos, negsuc, ◌+ℤ◌, ◌-ℤ◌, neg_ℤ, ◌≤ℤ◌, ◌<ℤ◌, Ok, Err, ◌==◌, ◌≢◌, int_lt, nat_lt, unsigned_abs, refl}
-use Rattle.std.proofs.Common.{sym, ap, ◌∙◌, subst, div-one, mod-eq_of_lt, lt_of_lt_of_le, arith, lt-ltb, le-ltb, eqb-true, ltb→lt, lt→ltb, lit<, pow_mono, to_z, of_z}
+use Rattle.std.proofs.Common.{sym, ap, ◌∙◌, div-one, mod-eq_of_lt, lt_of_lt_of_le, mul-one, arith, lt-ltb, le-ltb, eqb-true, ltb→lt, lt→ltb, lit<, pow_mono}
 use Rattle.std.proofs.Math.Decide.{dec_le}
-use Rattle.std.proofs.lemmas.Int.{ints}
+use Rattle.std.proofs.lemmas.Int.{ints, clamps}
 use Rattle.std.proofs.lemmas.Bool.{eqb-false}
-use Rattle.std.specs.Int.{w64}
+use mir.Val.{sel}
+use Rattle.std.specs.Int.{w32, cast_signed, cast_unsigned, int_max, int_min}
+use Rattle.refusals.specs.declared.Refusal.{Refusal}
 use Rattle.refusals.specs.declared.Refusal.TheVariants.{AboveRange, BelowRange}
-use Rattle.numbers.specs.Nearest.{nearest_ℕ, nearest, remainder}
-use Rattle.numbers.specs.Coding.{Codes, outcome}
+use Rattle.numbers.specs.Nearest.{nearest_ℕ, nearest}
+use Rattle.numbers.specs.Coding.{Codes, adder, outcome}
 use Rattle.numbers.specs.Outcome.{told_by, number}
-use Rattle.numbers.proofs.Signed.{nearest_held, nearest_of_held}
-use Rattle.numbers.proofs.Remainder.{remainder_le_left}
+use Rattle.numbers.proofs.Signed.{nearest_of_held}
 use Rattle.numbers.proofs.Outcomes.{outcome_inside, outcome_over, outcome_under}
 use Rattle.register.specs.Limbs.{LeastBits}
+use Rattle.register.specs.Wrap.{signed_by, scaled}
+use Rattle.binary.proofs.Signs.{sign_is}
 use Rattle.kinds.specs.Answer.{answered}
 use Rattle.kinds.specs.Count.{litres, is_count, count_worth, count_pattern, counts}
 use Rattle.kinds.specs.Flat.{below_all, held_all, nearest_flat}
@@ -72,6 +75,25 @@ unfolding count_pattern
 pattern_high (pos m) h l = absurd (omega (arith, ints))
 pattern_high (negsuc m) h l = refl
 
+-- ---- two's complement by the library
+pub worth_is : (p : ℕ) → p < 2 ^ 32 → cast_signed w32 p ≡ count_worth p
+worth_is p l =
+    elim (dec_le (2 ^ 31) p) [
+      | yes h ↦
+          ap (λ (t : Bool). sel t (pos p) (negsuc (2 ^ 32 - suc p))) (le-ltb p (2 ^ 31) h) ∙ (let e : negsuc (2 ^ 32 - suc p) ≡ neg_ℤ (pos (2 ^ 32 - p)) = omega (arith, ints) in e) ∙ sym (worth_high p h)
+      | no h ↦
+          let b : p < 2 ^ 31 = omega arith in
+          ap (λ (t : Bool). sel t (pos p) (negsuc (2 ^ 32 - suc p))) (lt-ltb p (2 ^ 31) b) ∙ sym (worth_low p b)
+    ]
+
+pub pattern_is : (z : ℤ) → cast_unsigned w32 z ≡ count_pattern z
+unfolding count_pattern
+pattern_is (pos m) = refl
+pattern_is (negsuc m) = refl
+
+pub scaled_is : (z : ℤ) → scaled (int_lt z (pos 0)) (unsigned_abs z) 0 ≡ z
+scaled_is z = ap (signed_by (int_lt z (pos 0))) (mul-one (unsigned_abs z)) ∙ sym (sign_is z)
+
 back : (z : ℤ) → unsigned_abs z < 2 ^ 31 → count_worth (count_pattern z) ≡ z
 unfolding count_pattern
 back (pos m) l = worth_low m l
@@ -97,42 +119,22 @@ codes =
 nearest_count : (m : ℕ) → nearest_ℕ litres m ≡ min m 2147483647
 nearest_count m = nearest_flat litres refl m
 
-pub nearest_over : (z : ℤ) → pos 2147483647 <ℤ z → nearest litres z ≡ pos 2147483647
+pub clamp_is : (z : ℤ) → int_max (negsuc 2147483646) (int_min z (pos 2147483647)) ≡ nearest litres z
 unfolding nearest
-nearest_over (pos m) h = let e = nearest_count m in omega (arith, ints)
-nearest_over (negsuc m) h = absurd (omega (arith, ints))
-
-pub nearest_under : (z : ℤ) → z <ℤ negsuc 2147483646 → nearest litres z ≡ negsuc 2147483646
-unfolding nearest
-nearest_under (pos m) h = absurd (omega (arith, ints))
-nearest_under (negsuc m) h = let e = nearest_count (suc m) in omega (arith, ints)
+clamp_is (pos m) = let e = nearest_count m in omega (arith, ints, clamps)
+clamp_is (negsuc m) = let e = nearest_count (suc m) in omega (arith, ints, clamps)
 
 pub nearest_inside : (z : ℤ) → unsigned_abs z < 2 ^ 31 → nearest litres z ≡ z
 nearest_inside z l = nearest_of_held litres z (held_all litres refl (unsigned_abs z) l)
 
--- ---- the adder: the code's own sum, and what it has of it
-abbrev pub in_code : ℤ → ℤ → ℤ
-in_code x y = to_z w64 (of_z w64 (to_z w64 (of_z w64 x) +ℤ to_z w64 (of_z w64 y)))
-
-pub record Sum (a b : ℕ) (x y s : ℤ) : Type 0 where
-  pub total : in_code x y ≡ count_worth a +ℤ count_worth b
-  pub held : s ≡ nearest litres (count_worth a +ℤ count_worth b)
-  pub small : unsigned_abs s < 2 ^ 31
-  pub rest : unsigned_abs ((count_worth a +ℤ count_worth b) -ℤ s) < 2 ^ 31
-
-pub summed : {a b : ℕ} {x y s : ℤ} → T (is_count a) → T (is_count b) → x ≡ count_worth a → y ≡ count_worth b → s ≡ nearest litres (in_code x y) → Sum a b x y s
-summed {a} {b} {x} {y} {s} m n i j e =
-    let v = count_worth a +ℤ count_worth b in
-    let t : in_code x y ≡ v = omega (arith, ints, (number_out a m).1, (number_out b n).1) in
-    let h : s ≡ nearest litres v = e ∙ ap (nearest litres) t in
-    let r : unsigned_abs (remainder litres (count_worth a) (count_worth b)) ≤ unsigned_abs (count_worth a) =
-    remainder_le_left litres (count_worth a) (count_worth b) (codes.held b n) in
-    record {
-      total = t;
-      held = h;
-      small = subst (λ (z : ℤ). unsigned_abs z < 2 ^ 31) (sym h) (below_all litres refl (nearest_held litres v));
-      rest = subst (λ (z : ℤ). unsigned_abs (v -ℤ z) < 2 ^ 31) (sym h) (omega (arith, (number_out a m).1));
-    }
+-- ---- the adder
+pub added : (a b s r : ℕ) (t k u v : ℤ) → s ≡ count_pattern u → r ≡ count_pattern v → k ≡ int_max (negsuc 2147483646) (int_min t (pos 2147483647)) → u ≡ k → v ≡ t -ℤ u
+    → t ≡ count_worth a +ℤ count_worth b → ◌≡◌ {A = ℕ × ℕ} (s, r) (adder counts a b)
+added a b s r t k u v i j h l d e =
+    let n : u ≡ nearest litres (count_worth a +ℤ count_worth b) = l ∙ h ∙ clamp_is t ∙ ap (nearest litres) e in
+    let first : s ≡ (adder counts a b).0 = i ∙ ap count_pattern n in
+    let rest : r ≡ (adder counts a b).1 = j ∙ ap count_pattern (d ∙ ap (λ (z : ℤ). z -ℤ u) e ∙ ap (λ (z : ℤ). (count_worth a +ℤ count_worth b) -ℤ z) n) in
+    λ i. (first i, rest i)
 
 -- ---- readings, by the sum's sign and the number of its bits
 module _ (v : ℤ) (m b : ℕ) (is : m ≡ unsigned_abs v) (size : LeastBits m b) where
@@ -146,21 +148,16 @@ module _ (v : ℤ) (m b : ℕ) (is : m ≡ unsigned_abs v) (size : LeastBits m b
   short : b ≤ 31 → unsigned_abs v < 2 ^ 31
   short h = let l : m < 2 ^ 31 = lt_of_lt_of_le size.enough (pow_mono h) in omega arith
 
-  pub reads_above : 31 < b → int_lt v (pos 0) ≡ false → Err AboveRange ≡ answered (outcome counts v)
-  reads_above h s = let l = long h in sym (ap (λ o. answered (told_by count_pattern o)) (outcome_over litres v (omega (arith, ints))))
-
-  pub reads_below : 31 < b → int_lt v (pos 0) ≡ true → Err BelowRange ≡ answered (outcome counts v)
-  reads_below h s = let l = long h in sym (ap (λ o. answered (told_by count_pattern o)) (outcome_under litres v (omega (arith, ints))))
+  pub reads_past : (n : Bool) (r : Refusal) → 31 < b → n ≡ int_lt v (pos 0) → r ≡ cond n BelowRange AboveRange → Err r ≡ answered (outcome counts v)
+  reads_past true r h s e = let l = long h in ap Err e ∙ sym (ap (λ o. answered (told_by count_pattern o)) (outcome_under litres v (omega (arith, ints))))
+  reads_past false r h s e = let l = long h in ap Err e ∙ sym (ap (λ o. answered (told_by count_pattern o)) (outcome_over litres v (omega (arith, ints))))
 
   -- few bits are their lowest window, and the sum is a number itself
-  lowest : b ≤ 31 → (u : ℕ) → u ≡ m / 1 % 2 ^ 64 → u ≡ unsigned_abs v
-  lowest h u e = let l = short h in e ∙ ap (λ (x : ℕ). x % 2 ^ 64) (div-one m) ∙ mod-eq_of_lt (omega arith) ∙ is
+  pub window_is : (u : ℕ) → b ≤ 31 → u ≡ m / 2 ^ 0 % 2 ^ 64 → (u ≡ unsigned_abs v) × (unsigned_abs v < 2 ^ 31)
+  window_is u h e = let l = short h in (e ∙ ap (λ (x : ℕ). x % 2 ^ 64) (div-one m) ∙ mod-eq_of_lt (omega arith) ∙ is, l)
 
-  reads : b ≤ 31 → (u : ℕ) → u ≡ count_pattern v → Ok u ≡ answered (outcome counts v)
-  reads h u e = let l = short h in ap Ok e ∙ sym (ap (λ o. answered (told_by count_pattern o)) (outcome_inside litres v l ∙ ap number (nearest_inside v l)))
+  pub reads : (u : ℕ) (z : ℤ) → b ≤ 31 → u ≡ count_pattern z → z ≡ v → Ok u ≡ answered (outcome counts v)
+  reads u z h e i =
+      let l = short h in ap Ok (e ∙ ap count_pattern i) ∙ sym (ap (λ o. answered (told_by count_pattern o)) (outcome_inside litres v l ∙ ap number (nearest_inside v l)))
 
-  pub reads_plain : b ≤ 31 → int_lt v (pos 0) ≡ false → (u : ℕ) → u ≡ m / 1 % 2 ^ 64 → Ok u ≡ answered (outcome counts v)
-  reads_plain h s u e = reads h u (lowest h u e ∙ sym (pattern_low v (omega (arith, ints))))
-
-  pub reads_turned : b ≤ 31 → int_lt v (pos 0) ≡ true → (u : ℕ) → u ≡ m / 1 % 2 ^ 64 → Ok (2 ^ 32 - u) ≡ answered (outcome counts v)
-  reads_turned h s u e = reads h (2 ^ 32 - u) (ap (λ (x : ℕ). 2 ^ 32 - x) (lowest h u e) ∙ sym (pattern_high v (omega (arith, ints)) (short h)))
+pub ruleset counting = (ints, clamps, number_out, scaled_is, added, window_is, reads_past, reads)

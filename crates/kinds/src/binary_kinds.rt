@@ -1,15 +1,16 @@
 //! The binary kinds: numbers of 64 and of 32 bits, by one piece of code.
-ghost use Rattle.std.specs.Prelude.{◌≡◌, pos, if◌then◌else◌, Some, None, int_lt, nat_le};
+ghost use Rattle.std.specs.Prelude.{◌≡◌, nat_le};
+ghost use Rattle.std.specs.Bool.{then_some};
 ghost use Rattle.numbers.specs.Binary.{binary};
 ghost use Rattle.numbers.specs.Coding.{opposite, adder, outcome};
-ghost use Rattle.register.specs.Value.{value, bits};
+ghost use Rattle.register.specs.Value.{bits};
 ghost use Rattle.binary.specs.Layout.{top_code};
-ghost use Rattle.kinds.specs.Answer.{answered};
 ghost use Rattle.kinds.specs.Range.{code_in_range};
 ghost use Rattle.numbers.proofs.Binary.{codes};
 ghost use Rattle.numbers.proofs.Laws;
 
 use crate::kind::Kind;
+use crate::range::past;
 use binary::format::Binary;
 use binary::{adder, patterns};
 use refusals::Refusal;
@@ -17,16 +18,13 @@ use register::{Register, Scaled};
 
 // A pattern without a sign, if it is a number's.
 fn in_range<B: Binary>(code: u64) -> Option<u64>
-    ensures { result ≡ (if nat_le code (top_code B.Binary.format) then Some code else None) }
+    ensures { result ≡ then_some (nat_le code (top_code B.Binary.format)) code }
 {
-    if patterns::fits::<B>(code) {
-        Some(code)
-    } else {
-        None
-    }
+    patterns::fits::<B>(code).then_some(code)
 }
 
 // The pattern of the number nearest to a magnitude, if that is in range.
+#[tactic(auto, using(crate::proofs::Ranges::ranges))]
 fn rounded<B: Binary>(m: &Register) -> Option<u64>
     ensures { result ≡ code_in_range B.Binary.format (bits m.now) }
 {
@@ -40,23 +38,6 @@ fn rounded<B: Binary>(m: &Register) -> Option<u64>
         return None;
     }
     in_range::<B>(at as u64 * B::lead() + m.rounded_at(at))
-}
-
-// What a sum of this sign reads.
-fn read<B: Binary>(sum: &Register, negative: bool) -> Result<u64, Refusal>
-    requires { negative ≡ int_lt (value sum.now) (pos 0) }
-    ensures { result ≡ answered (outcome (binary B.Binary.format) (value sum.now)) }
-{
-    match rounded::<B>(&sum.magnitude()) {
-        Some(code) => Ok(patterns::signed::<B>(negative, code)),
-        None => {
-            if negative {
-                Err(Refusal::BelowRange)
-            } else {
-                Err(Refusal::AboveRange)
-            }
-        }
-    }
 }
 
 impl<B: Binary> Kind for B {
@@ -90,7 +71,10 @@ impl<B: Binary> Kind for B {
         adder::add::<B>(a, b)
     }
 
+    #[tactic(auto, using(crate::proofs::Ranges::readings))]
     fn outcome(sum: &Register) -> Result<u64, Refusal> {
-        read::<B>(sum, sum.is_negative())
+        let negative = sum.is_negative();
+        let code = rounded::<B>(&sum.magnitude()).ok_or(past(negative))?;
+        Ok(patterns::signed::<B>(negative, code))
     }
 }

@@ -9,6 +9,7 @@ ghost use Rattle.numbers.proofs.Laws;
 ghost use Rattle.kinds.specs.Counting.{codes};
 
 use crate::kind::Kind;
+use crate::range::past;
 use refusals::Refusal;
 use register::{Register, Scaled};
 
@@ -19,93 +20,20 @@ pub struct Count;
 const TOP: i64 = 0x7FFF_FFFF;
 
 // What a pattern of 32 bits says.
+#[tactic(auto, using(crate::specs::Counting::worth_is))]
 fn signed(p: u64) -> i64
     requires { p < 2 ^ 32 }
     ensures { result ≡ counts.worth p }
 {
-    if p < 0x8000_0000 {
-        p as i64
-    } else {
-        p as i64 - 0x1_0000_0000
-    }
+    i64::from((p as u32).cast_signed())
 }
 
+#[tactic(auto, using(crate::specs::Counting::pattern_is))]
 fn pattern(z: i64) -> u64
     requires { unsigned_abs z < 2 ^ 31 }
     ensures { result ≡ counts.pattern z }
 {
-    if z < 0 {
-        (z + 0x1_0000_0000) as u64
-    } else {
-        z as u64
-    }
-}
-
-fn clamped(z: i64) -> i64
-    ensures { result ≡ nearest litres z }
-{
-    if z > TOP {
-        TOP
-    } else if z < -TOP {
-        -TOP
-    } else {
-        z
-    }
-}
-
-fn scaled(p: u64) -> Scaled
-    requires { T (counts.number p) }
-    ensures { meant result ≡ counts.worth p }
-{
-    if p < 0x8000_0000 {
-        return Scaled {
-            negative: false,
-            magnitude: p,
-            shift: 0,
-        };
-    }
-    Scaled {
-        negative: true,
-        magnitude: 0x1_0000_0000 - p,
-        shift: 0,
-    }
-}
-
-fn turned(p: u64) -> u64
-    requires { T (counts.number p) }
-    ensures { result ≡ opposite counts p }
-{
-    pattern(-signed(p))
-}
-
-fn added(a: u64, b: u64) -> (u64, u64)
-    requires { (T (counts.number a)) × (T (counts.number b)) }
-    ensures { result ≡ adder counts a b }
-{
-    let total = signed(a) + signed(b);
-    let sum = clamped(total);
-    (pattern(sum), pattern(total - sum))
-}
-
-// What a sum of this sign reads.
-fn read(sum: &Register, negative: bool) -> Result<u64, Refusal>
-    requires { negative ≡ int_lt (value sum.now) (pos 0) }
-    ensures { result ≡ answered (outcome counts (value sum.now)) }
-{
-    let magnitude = sum.magnitude();
-    if magnitude.bit_length() > 31 {
-        return Err(if negative {
-            Refusal::BelowRange
-        } else {
-            Refusal::AboveRange
-        });
-    }
-    let units = magnitude.window(0);
-    if negative {
-        Ok(0x1_0000_0000 - units)
-    } else {
-        Ok(units)
-    }
+    u64::from((z as i32).cast_unsigned())
 }
 
 impl Kind for Count {
@@ -125,19 +53,40 @@ impl Kind for Count {
         p < 0x1_0000_0000 && p != 0x8000_0000
     }
 
+    #[tactic(auto, using(crate::specs::Counting::counting))]
     fn worth(p: u64) -> Scaled {
-        scaled(p)
+        let z = signed(p);
+        Scaled {
+            negative: z < 0,
+            magnitude: z.unsigned_abs(),
+            shift: 0,
+        }
     }
 
+    #[tactic(auto, using(crate::specs::Counting::counting))]
     fn opposite(p: u64) -> u64 {
-        turned(p)
+        pattern(-signed(p))
     }
 
+    #[tactic(auto, using(crate::specs::Counting::counting))]
     fn add(a: u64, b: u64) -> (u64, u64) {
-        added(a, b)
+        let total = signed(a) + signed(b);
+        let sum = total.clamp(-TOP, TOP);
+        (pattern(sum), pattern(total - sum))
     }
 
+    #[tactic(auto, using(crate::specs::Counting::counting))]
     fn outcome(sum: &Register) -> Result<u64, Refusal> {
-        read(sum, sum.is_negative())
+        let negative = sum.is_negative();
+        let magnitude = sum.magnitude();
+        if magnitude.bit_length() > 31 {
+            return Err(past(negative));
+        }
+        let z = magnitude.window(0) as i64;
+        if negative {
+            Ok(pattern(-z))
+        } else {
+            Ok(pattern(z))
+        }
     }
 }

@@ -4,4 +4,5 @@
 pub mod binary_kinds;
 pub mod count;
 pub mod kind;
+mod range;
 pub mod zero;

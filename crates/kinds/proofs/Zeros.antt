@@ -1,10 +1,9 @@
 -- A magnitude of 0 is a worth of 0, and no other is.
-use Rattle.std.proofs.Common.{◌≡◌, ℕ, ◌*◌, ◌^◌, Bool, true, false, pos, sym, refl, ◌∙◌, zero-mul, arith, pow_pos}
+use Rattle.std.proofs.Common.{◌≡◌, ℕ, ◌*◌, ◌^◌, Bool, true, false, ℤ, pos, ◌==◌, ◌≢◌, sym, refl, ◌∙◌, zero-mul, arith, pow_pos}
 use native.Mathlib.Nat.{eq_of_mul-eq-mul_right}
 use borrow.Author.Differences.{ints}
 use Rattle.std.proofs.lemmas.Bool.{eqb-true, eqb-false}
 use Rattle.register.specs.Wrap.{scaled}
-use Rattle.kinds.proofs.zero.nothing.Goals as goal
 
 scaled_zero : (n : Bool) (m s : ℕ) → m ≡ 0 → scaled n m s ≡ pos 0
 scaled_zero true m s e = rw e (rw zero-mul refl)
@@ -17,10 +16,10 @@ zero_scaled : (n : Bool) (m s : ℕ) → scaled n m s ≡ pos 0 → m ≡ 0
 zero_scaled true m s e = none m s (omega (arith, ints))
 zero_scaled false m s e = none m s (omega (arith, ints))
 
-pub returns : goal.returns
-returns c =
-    let w = c.args.worth in
-    record {
-      yes = λ e. scaled_zero w.negative w.magnitude w.shift (eqb-true _ _ e);
-      no = λ e z. eqb-false _ _ e (zero_scaled w.negative w.magnitude w.shift z);
-    }
+pub no_worth : (n : Bool) (m s : ℕ) (z : ℤ) → scaled n m s ≡ z → (m == 0) ≡ true → z ≡ pos 0
+no_worth n m s z e t = sym e ∙ scaled_zero n m s (eqb-true _ _ t)
+
+pub some_worth : (n : Bool) (m s : ℕ) (z : ℤ) → scaled n m s ≡ z → (m == 0) ≡ false → z ≢ pos 0
+some_worth n m s z e t i = eqb-false _ _ t (zero_scaled n m s (e ∙ i))
+
+pub ruleset zeros = (no_worth, some_worth)
