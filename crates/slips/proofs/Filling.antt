@@ -1,9 +1,9 @@
 -- A slot that holds nothing: that there is one, and what a number in it changes.
-use Rattle.std.proofs.Common.{◌≡◌, ℕ, zero, suc, ◌+◌, ◌-◌, ◌<◌, ◌≤◌, min, T, List, [], ◌∷◌, length, get_or, set, pos, ◌+ℤ◌, nat_abs, subst, inl, inr, arith}
+use Rattle.std.proofs.Common.{◌≡◌, ℕ, zero, suc, ◌+◌, ◌-◌, ◌<◌, ◌≤◌, min, List, [], ◌∷◌, length, get_or, set, pos, ◌+ℤ◌, nat_abs, subst, inl, inr, arith}
 use borrow.Author.Differences.{ints}
 use Rattle.std.proofs.lemmas.Bool.{cases_lt}
 use Rattle.kinds.specs.declared.kind.Kind.{Ghosts}
-use Rattle.slots.specs.Pass.{Numbers, exact_sum, in_use}
+use Rattle.slots.specs.Pass.{exact_sum, in_use}
 
 module _ {K : Type 0} (k : Ghosts K) where
   used : (x : ℕ) → (k.worth x ≡ pos 0 → ⊥) → 1 ≤ min 1 (nat_abs (k.worth x))
@@ -44,11 +44,6 @@ module _ {K : Type 0} (k : Ghosts K) where
       in
       let most = crowded xs i from in
       record { above = omega arith; within = omega (arith, a.within); highest = λ j up lt. from j (omega arith) lt }
-
-  pub numbers_set : (xs : List ℕ) (i p : ℕ) → T (k.number p) → Numbers k xs → Numbers k (set xs i p)
-  numbers_set [] i p n a = a
-  numbers_set (x ∷ xs) zero p n a = (n, a.1)
-  numbers_set (x ∷ xs) (suc i) p n a = (a.0, numbers_set xs i p n a.1)
 
   pub in_use_set : (xs : List ℕ) (i p : ℕ) → in_use k (set xs i p) ≤ in_use k xs + 1
   in_use_set [] i p = omega arith

@@ -1,8 +1,8 @@
 //! Where an entry goes.
-ghost use Rattle.std.specs.Prelude.{◌≡◌, ◌+◌, ◌<◌, ◌≤◌, T, length, ◌+ℤ◌};
-ghost use Rattle.slots.specs.Pass.{Numbers, exact_sum, in_use};
+ghost use Rattle.std.specs.Prelude.{◌≡◌, ◌+◌, ◌<◌, ◌≤◌, T, length, ◌+ℤ◌, All};
+ghost use Rattle.slots.specs.Pass.{exact_sum, in_use};
 ghost use Rattle.accounts.specs.Meaning.{with_entry};
-ghost use Rattle.slips.specs.Slips.{slips_meaning, SlipsSound, Filled, Lodged};
+ghost use Rattle.slips.specs.Slips.{slips_meaning, Filled, Lodged};
 
 use crate::slips::Slips;
 use kinds::kind::Kind;
@@ -11,10 +11,10 @@ use kinds::zero::is_zero;
 // Puts the number into the highest free slot. There is one, since fewer slots are in use than there are above slot 0.
 fn fill<K: Kind>(slots: &mut [u64], p: u64)
     requires number { T (K.Kind.number p) }
-    requires numbers { Numbers K.Kind slots.old }
+    requires numbers { All (λ p. T (K.Kind.number p)) slots.old }
     requires room { in_use K.Kind slots.old + 1 < length slots.old }
     ensures filled { Filled K.Kind slots.old p slots.new }
-    ensures numbers { Numbers K.Kind slots.new }
+    ensures numbers { All (λ p. T (K.Kind.number p)) slots.new }
     ensures few { in_use K.Kind slots.new ≤ in_use K.Kind slots.old + 1 }
     ensures sum { exact_sum K.Kind slots.new ≡ exact_sum K.Kind slots.old +ℤ K.Kind.worth p }
 {
@@ -28,13 +28,11 @@ fn fill<K: Kind>(slots: &mut [u64], p: u64)
     slots[slot] = p;
 }
 
-impl Slips {
+impl<K: Kind> Slips<K> {
     // One more entry.
-    pub(crate) fn lodge<K: Kind>(&mut self, p: u64)
+    pub(crate) fn lodge(&mut self, p: u64)
         requires number { T (K.Kind.number p) }
-        requires sound { SlipsSound K.Kind self.old }
         requires room { self.old.count < 63 }
-        ensures sound { SlipsSound K.Kind self.new }
         ensures means { slips_meaning K.Kind self.new ≡ with_entry (K.Kind.worth p) (slips_meaning K.Kind self.old) }
         ensures lodged { Lodged K.Kind self.old p self.new }
     {

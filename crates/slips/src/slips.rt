@@ -1,7 +1,18 @@
-/// An account that keeps its entries in 64 slots, with the column in which a reading settles them. No more slots are in use than there are entries.
+ghost use Rattle.std.specs.Prelude.{◌≤◌, T, All};
+ghost use Rattle.std.proofs.Props.{props};
+ghost use Rattle.slots.specs.Pass.{in_use};
+
+use kinds::kind::Kind;
+use std::marker::PhantomData;
+
+/// An account that keeps its entries in 64 slots, each a number, with the column in which a reading settles them. No more slots are in use than there are entries.
 #[derive(Drop)]
-pub struct Slips {
+pub struct Slips<K: Kind> {
     pub(crate) slots: [u64; 64],
     pub(crate) column: [u64; 64],
     pub(crate) count: u32,
+    pub(crate) kind: PhantomData<K>,
+    ghost numbers: { All (λ p. T (K.Kind.number p)) slots } by { Prim.hlevel props },
+    ghost few: { in_use K.Kind slots ≤ count },
+    ghost most: { count ≤ 63 },
 }

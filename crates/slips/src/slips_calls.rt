@@ -9,6 +9,7 @@ use kinds::kind::Kind;
 use plans::writes::write_halving;
 use refusals::Refusal;
 use settle::budget::Settings;
+use std::marker::PhantomData;
 
 // Each slot but slot 0 has room for one entry.
 const LIMIT: u32 = 63;
@@ -19,10 +20,8 @@ const DOTS: usize = 63;
 // Its text has a byte for each dot, and two for each pair of brackets.
 const PLAN_BYTES: usize = 3 * DOTS - 2;
 
-impl<K: Kind> Account<K> for Slips {
+impl<K: Kind> Account<K> for Slips<K> {
     type Setup = ();
-
-    ghost sound = { (slips K.Kind).sound };
 
     ghost meaning = { (slips K.Kind).meaning };
 
@@ -36,30 +35,31 @@ impl<K: Kind> Account<K> for Slips {
 
     ghost limited = { Prim.search rules };
 
-    fn open(_setup: ()) -> Slips {
+    fn open(_setup: ()) -> Slips<K> {
         Slips {
             slots: [0; 64],
             column: [0; 64],
             count: 0,
+            kind: PhantomData,
         }
     }
 
     fn post(&mut self, p: u64) -> Result<(), Refusal> {
         asked::<K>(p, self.count, LIMIT)?;
-        self.lodge::<K>(p);
+        self.lodge(p);
         Ok(())
     }
 
     fn withdraw(&mut self, p: u64) -> Result<(), Refusal> {
         asked::<K>(p, self.count, LIMIT)?;
-        self.lodge::<K>(K::opposite(p));
+        self.lodge(K::opposite(p));
         Ok(())
     }
 
     fn read(&mut self) -> Result<u64, Refusal> {
         let mut plan = [b'.'; PLAN_BYTES];
         write_halving(&mut plan, DOTS);
-        self.settled::<K>(&plan, &Settings::new())
+        self.settled(&plan, &Settings::new())
     }
 
     fn entries(&self) -> u32 {

@@ -1,10 +1,10 @@
-use Rattle.std.proofs.Common.{set, refl}
-use Rattle.slots.proofs.Keeps.{numbers_at}
-use Rattle.slips.proofs.Filling.{above_less, numbers_set, in_use_set, exact_sum_set}
+use Rattle.std.proofs.Common.{T, set, refl}
+use Rattle.std.proofs.lemmas.List.Elements.{All-set}
+use Rattle.slips.proofs.Filling.{above_less, in_use_set, exact_sum_set}
 use Rattle.slips.proofs.lodging.fill.Goals as goal
 
 pub is_zero-requires : goal.is_zero-requires
-is_zero-requires g c = numbers_at g.K.Kind _ _ c.loop-at.invariant.within c.requires.numbers
+is_zero-requires g c = c.requires.numbers _ 0 c.loop-at.invariant.within
 
 pub loop-at-preserved : goal.loop-at-preserved
 loop-at-preserved g c = above_less g.K.Kind _ _ c.requires.room c.loop-at.invariant (c.is_zero.ensures.no c.if-is_zero.false)
@@ -21,7 +21,7 @@ returns g c =
             free = record { above = i.above; within = i.within; zero = zero; highest = i.highest };
             put = refl {a = set c.args.slots.now c.loop-at.at c.args.p};
           };
-      numbers = numbers_set k _ _ _ c.requires.number c.requires.numbers;
+      numbers = All-set (λ q. T (k.number q)) c.args.slots.now c.loop-at.at c.args.p c.requires.number c.requires.numbers;
       few = in_use_set k _ _ _;
       sum = exact_sum_set k _ _ _ i.within zero;
     }
