@@ -6,4 +6,3 @@ pub mod quota_calls;
 pub mod staged;
 pub mod staged_calls;
 mod staging;
-mod tray;

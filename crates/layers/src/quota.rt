@@ -1,8 +1,16 @@
+ghost use Rattle.std.specs.Prelude.{◌≤◌};
+
+use accounts::account::Account;
+use kinds::kind::Kind;
+use std::marker::PhantomData;
+
 /// A layer that lowers the limit: the smaller of its own and the limit below.
 #[derive(Drop)]
-pub struct Quota<A> {
+pub struct Quota<K: Kind, A: Account<K>> {
     pub(crate) below: A,
     pub(crate) most: u32,
+    pub(crate) kind: PhantomData<K>,
+    ghost few: { (A.Account.meaning below).entries ≤ most },
 }
 
 /// What a fresh quota is told: how many entries it accepts at most, and what the account below is told.

@@ -1,7 +1,7 @@
 //! The quota's calls.
 ghost use Rattle.std.specs.Prelude.{◌≡◌};
 ghost use Rattle.accounts.specs.Meaning.{questions};
-ghost use Rattle.layers.specs.Quota.{quota, QuotaSound};
+ghost use Rattle.layers.specs.Quota.{quota};
 ghost use Rattle.std.proofs.Common.{rules};
 
 use crate::quota::{Quota, QuotaSetup};
@@ -9,55 +9,55 @@ use accounts::account::Account;
 use accounts::asked::asked;
 use kinds::kind::Kind;
 use refusals::Refusal;
+use std::marker::PhantomData;
 
-// The two questions of an entry, with the quota for the limit.
-fn within<K: Kind, A: Account<K>>(q: &Quota<A>, p: u64) -> Result<(), Refusal>
-    requires { QuotaSound A.Account q.now }
-    ensures { result ≡ questions K.Kind p (A.Account.meaning q.now.below).entries q.now.most }
-{
-    asked::<K>(p, q.below.entries(), q.most)
+impl<K: Kind, A: Account<K>> Quota<K, A> {
+    // The two questions of an entry, with the quota for the limit.
+    fn within(&self, p: u64) -> Result<(), Refusal>
+        ensures { result ≡ questions K.Kind p (A.Account.meaning self.now.below).entries self.now.most }
+    {
+        asked::<K>(p, self.below.entries(), self.most)
+    }
 }
 
-impl<K: Kind, A: Account<K>> Account<K> for Quota<A> {
+impl<K: Kind, A: Account<K>> Account<K> for Quota<K, A> {
     type Setup = QuotaSetup<A::Setup>;
 
-    ghost sound = { (quota A.Account).sound };
+    ghost meaning = { (quota K.Kind A.Account).meaning };
 
-    ghost meaning = { (quota A.Account).meaning };
+    ghost agreed = { (quota K.Kind A.Account).agreed };
 
-    ghost agreed = { (quota A.Account).agreed };
+    ghost opens = { (quota K.Kind A.Account).opens };
 
-    ghost opens = { (quota A.Account).opens };
+    ghost enters = { (quota K.Kind A.Account).enters };
 
-    ghost enters = { (quota A.Account).enters };
-
-    ghost reads = { (quota A.Account).reads };
+    ghost reads = { (quota K.Kind A.Account).reads };
 
     ghost limited = { Prim.search rules };
 
-    fn open(setup: QuotaSetup<A::Setup>) -> Quota<A> {
+    fn open(setup: QuotaSetup<A::Setup>) -> Quota<K, A> {
         let QuotaSetup { most, below } = setup;
         Quota {
             below: A::open(below),
             most,
+            kind: PhantomData,
         }
     }
 
+    #[tactic(auto, using(crate::proofs::Passed::quota_leaves))]
     fn post(&mut self, p: u64) -> Result<(), Refusal> {
-        within::<K, A>(self, p)?;
-        self.below.post(p)?;
-        Ok(())
+        self.within(p)?;
+        self.below.post(p)
     }
 
+    #[tactic(auto, using(crate::proofs::Passed::quota_leaves))]
     fn withdraw(&mut self, p: u64) -> Result<(), Refusal> {
-        within::<K, A>(self, p)?;
-        self.below.withdraw(p)?;
-        Ok(())
+        self.within(p)?;
+        self.below.withdraw(p)
     }
 
     fn read(&mut self) -> Result<u64, Refusal> {
-        let p = self.below.read()?;
-        Ok(p)
+        self.below.read()
     }
 
     fn entries(&self) -> u32 {

@@ -1,13 +1,17 @@
-/// A table of up to sixteen kept entries, the oldest first. Words from `len` on mean nothing.
-#[derive(Drop)]
-pub struct Tray {
-    pub(crate) kept: [u64; 16],
-    pub(crate) len: usize,
-}
+ghost use Rattle.std.specs.Prelude.{◌+◌, ◌≤◌, T, length, All};
+ghost use Rattle.std.proofs.Props.{props};
 
-/// A layer that keeps accepted entries for a while before it hands them down.
+use accounts::account::Account;
+use arrayvec::ArrayVec;
+use kinds::kind::Kind;
+use std::marker::PhantomData;
+
+/// A layer that keeps up to sixteen accepted entries, the oldest first, before it hands them down.
 #[derive(Drop)]
-pub struct Staged<A> {
+pub struct Staged<K: Kind, A: Account<K>> {
     pub(crate) below: A,
-    pub(crate) tray: Tray,
+    pub(crate) kept: ArrayVec<u64, 16>,
+    pub(crate) kind: PhantomData<K>,
+    ghost numbers: { All (λ p. T (K.Kind.number p)) kept.items } by { Prim.hlevel props },
+    ghost within: { (A.Account.meaning below).entries + length kept.items ≤ (A.Account.meaning below).limit },
 }

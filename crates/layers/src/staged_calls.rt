@@ -2,17 +2,16 @@
 ghost use Rattle.layers.specs.Staged.{staged};
 ghost use Rattle.std.proofs.Common.{rules};
 
-use crate::staged::{Staged, Tray};
-use crate::staging::{keep, read_below};
+use crate::staged::Staged;
 use accounts::account::Account;
 use accounts::asked::asked;
+use arrayvec::ArrayVec;
 use kinds::kind::Kind;
 use refusals::Refusal;
+use std::marker::PhantomData;
 
-impl<K: Kind, A: Account<K>> Account<K> for Staged<A> {
+impl<K: Kind, A: Account<K>> Account<K> for Staged<K, A> {
     type Setup = A::Setup;
-
-    ghost sound = { (staged K.Kind A.Account).sound };
 
     ghost meaning = { (staged K.Kind A.Account).meaning };
 
@@ -26,31 +25,30 @@ impl<K: Kind, A: Account<K>> Account<K> for Staged<A> {
 
     ghost limited = { Prim.search rules };
 
-    fn open(setup: A::Setup) -> Staged<A> {
+    fn open(setup: A::Setup) -> Staged<K, A> {
         Staged {
             below: A::open(setup),
-            tray: Tray::empty(),
+            kept: ArrayVec::new(),
+            kind: PhantomData,
         }
     }
 
     fn post(&mut self, p: u64) -> Result<(), Refusal> {
         asked::<K>(p, self.entries(), self.limit())?;
-        keep::<K, A>(self, p)?;
-        Ok(())
+        self.keep(p)
     }
 
     fn withdraw(&mut self, p: u64) -> Result<(), Refusal> {
         asked::<K>(p, self.entries(), self.limit())?;
-        keep::<K, A>(self, K::opposite(p))?;
-        Ok(())
+        self.keep(K::opposite(p))
     }
 
     fn read(&mut self) -> Result<u64, Refusal> {
-        read_below::<K, A>(self)
+        self.read_below()
     }
 
     fn entries(&self) -> u32 {
-        self.below.entries() + self.tray.len as u32
+        self.below.entries() + self.kept.len() as u32
     }
 
     fn limit(&self) -> u32 {
