@@ -9,7 +9,6 @@ mod tests {
     use kinds::kind::Kind;
     use refusals::Refusal;
     use register::{Register, Scaled};
-    use std::process::Abort;
     use std::test::Fail;
 
     // The register of so many units, or of so many below 0.
@@ -41,98 +40,62 @@ mod tests {
         r
     }
 
-    fn refused(
-        rt: &impl Abort,
-        answer: Result<u64, Refusal>,
-        refusal: Refusal,
-    ) -> Result<(), Fail> {
-        match answer {
-            Ok(_) => {
-                assert!(rt; false);
-                Ok(())
-            },
-            Err(why) => {
-                assert!(rt; why == refusal);
-                Ok(())
-            },
-        }
-    }
-
-    fn reads(rt: &impl Abort, answer: Result<u64, Refusal>, number: u64) -> Result<(), Fail> {
-        match answer {
-            Ok(p) => {
-                assert!(rt; p == number);
-                Ok(())
-            },
-            Err(_) => {
-                assert!(rt; false);
-                Ok(())
-            },
-        }
-    }
-
     #[test]
     fn values_add_up(rt: HostRuntime) -> Result<(), Fail> {
         let most = register(false, 0x7FFF_FFFF);
-        reads(&rt, fleet_total::<Count>(&[]), 0)?;
-        reads(&rt, fleet_total::<Count>(&[most]), 0x7FFF_FFFF)?;
-        refused(
-            &rt,
+        assert_eq!(rt; fleet_total::<Count>(&[]), Ok(0));
+        assert_eq!(rt; fleet_total::<Count>(&[most]), Ok(0x7FFF_FFFF));
+        assert_eq!(rt;
             fleet_total::<Count>(&[most, most]),
-            Refusal::AboveRange,
-        )?;
+            Err(Refusal::AboveRange)
+        );
         let fleet = [most, register(true, 0x7FFF_FFFF), register(true, 1)];
-        reads(&rt, fleet_total::<Count>(&fleet), 0xFFFF_FFFF)?;
-        reads(&rt, fleet_total::<Binary64>(&fleet), 0x8000_0000_0000_0001)
+        assert_eq!(rt; fleet_total::<Count>(&fleet), Ok(0xFFFF_FFFF));
+        assert_eq!(rt; fleet_total::<Binary64>(&fleet), Ok(0x8000_0000_0000_0001));
+        Ok(())
     }
 
     #[test]
     fn the_first_beyond_reach(rt: HostRuntime) -> Result<(), Fail> {
         let one = register(false, 1);
-        refused(
-            &rt,
+        assert_eq!(rt;
             fleet_total::<Binary64>(&[one, edge(false), edge(true)]),
-            Refusal::RegisterTooLarge(1),
-        )?;
-        refused(
-            &rt,
+            Err(Refusal::RegisterTooLarge(1))
+        );
+        assert_eq!(rt;
             fleet_total::<Binary64>(&[edge(true), one]),
-            Refusal::RegisterTooLarge(0),
-        )?;
-        refused(
-            &rt,
+            Err(Refusal::RegisterTooLarge(0))
+        );
+        assert_eq!(rt;
             fleet_total::<Binary64>(&[one, inside(false)]),
-            Refusal::AboveRange,
-        )?;
-        refused(
-            &rt,
+            Err(Refusal::AboveRange)
+        );
+        assert_eq!(rt;
             fleet_total::<Binary64>(&[one, inside(true)]),
-            Refusal::BelowRange,
-        )?;
-        reads(
-            &rt,
+            Err(Refusal::BelowRange)
+        );
+        assert_eq!(rt;
             fleet_total::<Binary64>(&[inside(true), one, inside(false)]),
-            1,
-        )
+            Ok(1)
+        );
+        Ok(())
     }
 
     // As many as a fleet may have add up without wrapping; one more is too many, whatever it holds.
     #[test]
     fn the_largest_fleet(rt: HostRuntime) -> Result<(), Fail> {
-        refused(
-            &rt,
+        assert_eq!(rt;
             fleet_total::<Binary64>(&[inside(false); 1024]),
-            Refusal::AboveRange,
-        )?;
-        refused(
-            &rt,
+            Err(Refusal::AboveRange)
+        );
+        assert_eq!(rt;
             fleet_total::<Binary64>(&[inside(true); 1024]),
-            Refusal::BelowRange,
-        )?;
-        refused(
-            &rt,
+            Err(Refusal::BelowRange)
+        );
+        assert_eq!(rt;
             fleet_total::<Binary64>(&[edge(false); 1025]),
-            Refusal::WrongCount,
-        )
+            Err(Refusal::WrongCount)
+        );
+        Ok(())
     }
 }

@@ -50,5 +50,5 @@ pub extern "C" fn gatimbol_read32(patterns: &[u64]) -> u64
 pub extern "C" fn gatimbol_slips64(patterns: &[u64]) -> u64
     ensures { result ≡ reads_by (binary binary64) 63 patterns.now }
 {
-    read::<Binary64, Slips>((), patterns)
+    read::<Binary64, Slips<Binary64>>((), patterns)
 }

@@ -117,54 +117,11 @@ mod tests {
     // No number of any kind.
     const NONE: u64 = u64::MAX;
 
-    fn refused(rt: &impl Abort, answer: Result<(), Refusal>, refusal: Refusal) -> Result<(), Fail> {
-        match answer {
-            Ok(()) => {
-                assert!(rt; false);
-                Ok(())
-            },
-            Err(why) => {
-                assert!(rt; why == refusal);
-                Ok(())
-            },
-        }
-    }
-
-    fn reads(
-        rt: &impl Abort,
-        answer: Result<u64, Refusal>,
-        expected: Result<u64, Refusal>,
-    ) -> Result<(), Fail> {
-        match (answer, expected) {
-            (Ok(p), Ok(q)) => {
-                assert!(rt; p == q);
-                Ok(())
-            },
-            (Err(why), Err(other)) => {
-                assert!(rt; why == other);
-                Ok(())
-            },
-            _ => {
-                assert!(rt; false);
-                Ok(())
-            },
-        }
-    }
-
-    fn enter<K: Kind, A: Account<K>>(
-        rt: &impl Abort,
-        account: &mut A,
-        entry: Entry,
-    ) -> Result<(), Fail>
-        requires { A.Account.sound account.old }
-        ensures { A.Account.sound account.new }
-    {
-        let answer = match entry {
+    fn enter<K: Kind, A: Account<K>>(account: &mut A, entry: Entry) -> Result<(), Refusal> {
+        match entry {
             Entry::Post(p) => account.post(p),
             Entry::Withdraw(p) => account.withdraw(p),
-        };
-        assert!(rt; answer.is_ok());
-        Ok(())
+        }
     }
 
     // Goes on to a stop, with a refused entry before each granted one, and reads there twice.
@@ -173,22 +130,19 @@ mod tests {
         account: &mut A,
         entries: &[Entry],
         stop: Stop,
-    ) -> Result<(), Fail>
-        requires { A.Account.sound account.old }
-        ensures { A.Account.sound account.new }
-    {
+    ) -> Result<(), Fail> {
         let (count, reading) = stop;
         let from = account.entries() as usize;
         let to = count as usize;
         assert!(rt; from <= to && to <= entries.len());
         for &entry in &entries[from..to] {
-            refused(rt, account.post(NONE), Refusal::NotANumber)?;
-            enter::<K, A>(rt, account, entry)?;
+            assert_eq!(rt; account.post(NONE), Err(Refusal::NotANumber));
+            assert_eq!(rt; enter::<K, A>(account, entry), Ok(()));
         }
-        assert!(rt; account.entries() == count);
-        reads(rt, account.read(), reading)?;
-        reads(rt, account.read(), reading)?;
-        assert!(rt; account.entries() == count);
+        assert_eq!(rt; account.entries(), count);
+        assert_eq!(rt; account.read(), reading);
+        assert_eq!(rt; account.read(), reading);
+        assert_eq!(rt; account.entries(), count);
         Ok(())
     }
 
@@ -206,12 +160,15 @@ mod tests {
         Ok(())
     }
 
+    fn staged<K: Kind>(rt: &impl Abort, entries: &[Entry], all: &[Stop]) -> Result<(), Fail> {
+        stops::<K, Staged<K, RegisterAccount>>(rt, entries, all)?;
+        stops::<K, Staged<K, Slips<K>>>(rt, entries, all)
+    }
+
     #[test]
     fn staged_entries(rt: HostRuntime) -> Result<(), Fail> {
-        stops::<Binary64, Staged<RegisterAccount>>(&rt, &METRES, &METRES_READINGS)?;
-        stops::<Binary64, Staged<Slips>>(&rt, &METRES, &METRES_READINGS)?;
-        stops::<Count, Staged<RegisterAccount>>(&rt, &LITRES, &LITRES_READINGS)?;
-        stops::<Count, Staged<Slips>>(&rt, &LITRES, &LITRES_READINGS)
+        staged::<Binary64>(&rt, &METRES, &METRES_READINGS)?;
+        staged::<Count>(&rt, &LITRES, &LITRES_READINGS)
     }
 
     // The entries in another order: those before the cut backwards.
@@ -236,24 +193,32 @@ mod tests {
             };
             let other = QuotaSetup { most, below: () };
             let (p, q) = readings::<K, A, B>(one, entries, other, &second);
-            reads(rt, p, reading)?;
-            reads(rt, q, reading)?;
+            assert!(rt; p == reading && q == reading);
         }
         Ok(())
     }
 
+    fn all_piles<K: Kind>(
+        rt: &impl Abort,
+        entries: &[Entry; 33],
+        all: &[Stop],
+    ) -> Result<(), Fail> {
+        piles::<
+            K,
+            Quota<K, Staged<K, Quota<K, RegisterAccount>>>,
+            Staged<K, Quota<K, Staged<K, Slips<K>>>>,
+        >(rt, entries, all)?;
+        piles::<
+            K,
+            Quota<K, Quota<K, Staged<K, Slips<K>>>>,
+            Staged<K, Staged<K, Quota<K, RegisterAccount>>>,
+        >(rt, entries, all)
+    }
+
     #[test]
     fn piles_read_alike(rt: HostRuntime) -> Result<(), Fail> {
-        piles::<Binary64, Quota<Staged<Quota<RegisterAccount>>>, Staged<Quota<Staged<Slips>>>>(
-            &rt,
-            &METRES,
-            &METRES_READINGS,
-        )?;
-        piles::<Count, Quota<Quota<Staged<Slips>>>, Staged<Staged<Quota<RegisterAccount>>>>(
-            &rt,
-            &LITRES,
-            &LITRES_READINGS,
-        )
+        all_piles::<Binary64>(&rt, &METRES, &METRES_READINGS)?;
+        all_piles::<Count>(&rt, &LITRES, &LITRES_READINGS)
     }
 
     // One unit to an entry: a full account reads how many it has.
@@ -264,19 +229,25 @@ mod tests {
     ) -> Result<(), Fail> {
         let mut account = A::open(setup);
         go::<K, A>(rt, &mut account, &UNITS, (limit, Ok(limit as u64)))?;
-        refused(rt, account.post(1), Refusal::Full)?;
-        refused(rt, account.withdraw(1), Refusal::Full)?;
+        assert_eq!(rt; account.post(1), Err(Refusal::Full));
+        assert_eq!(rt; account.withdraw(1), Err(Refusal::Full));
         assert!(rt; account.entries() == limit && account.limit() == limit);
+        Ok(())
+    }
+
+    fn quotas<K: Kind>(rt: &impl Abort) -> Result<(), Fail> {
+        for &(most, limit) in &QUOTAS {
+            fills::<K, Quota<K, Slips<K>>>(rt, QuotaSetup { most, below: () }, limit)?;
+            fills::<K, Staged<K, Quota<K, Slips<K>>>>(rt, QuotaSetup { most, below: () }, limit)?;
+            fills::<K, Quota<K, Staged<K, Slips<K>>>>(rt, QuotaSetup { most, below: () }, limit)?;
+        }
         Ok(())
     }
 
     #[test]
     fn full_quotas(rt: HostRuntime) -> Result<(), Fail> {
-        for &(most, limit) in &QUOTAS {
-            fills::<Count, Quota<Slips>>(&rt, QuotaSetup { most, below: () }, limit)?;
-            fills::<Binary32, Staged<Quota<Slips>>>(&rt, QuotaSetup { most, below: () }, limit)?;
-            fills::<Binary64, Quota<Staged<Slips>>>(&rt, QuotaSetup { most, below: () }, limit)?;
-        }
-        Ok(())
+        quotas::<Count>(&rt)?;
+        quotas::<Binary32>(&rt)?;
+        quotas::<Binary64>(&rt)
     }
 }

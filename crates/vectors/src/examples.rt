@@ -1,5 +1,4 @@
 //! The worked examples of docs/RULES.md, by the public calls.
-use crate::sessions::alike;
 use crate::tally::Tally;
 use accounts::readings::{Entry, readings};
 use accounts::register_account::RegisterAccount;
@@ -17,28 +16,23 @@ const TOP: u64 = 0x7FEF_FFFF_FFFF_FFFF;
 
 // What a register account and slips read of these entries, if it is the same.
 fn read<K: Kind>(entries: &[Entry], want: Result<u64, Refusal>) -> bool {
-    let (one, other) = readings::<K, RegisterAccount, Slips>((), entries, (), entries);
-    alike(one, want) && alike(other, want)
+    let (one, other) = readings::<K, RegisterAccount, Slips<K>>((), entries, (), entries);
+    one == want && other == want
 }
 
 fn settled() -> bool {
     let mut slots = [0, 0x4340_0000_0000_0000, 0x3FF0_0000_0000_0000, 1];
     let mut column = [7; 4];
-    match settle::<Binary64>(&mut slots, &mut column, b"((..).)", &Settings::new()) {
-        Ok(s) => {
-            alike(s.outcome, Ok(0x4340_0000_0000_0001)) && s.passes == 8 && s.by == Teller::Register
-        }
-        Err(_) => false,
-    }
+    settle::<Binary64>(&mut slots, &mut column, b"((..).)", &Settings::new()).is_ok_and(|s| {
+        s.outcome == Ok(0x4340_0000_0000_0001) && s.passes == 8 && s.by == Teller::Register
+    })
 }
 
 fn no_plan() -> bool {
     let mut slots = [0; 4];
     let mut column = [0; 4];
-    match pass::<Binary64>(&mut slots, &mut column, b"(.)(..)") {
-        Err(why) => why.number() == 11 && why.place() == 2,
-        Ok(()) => false,
-    }
+    pass::<Binary64>(&mut slots, &mut column, b"(.)(..)")
+        .is_err_and(|why| why.number() == 11 && why.place() == 2)
 }
 
 // Whether the adder gives these two.
@@ -47,7 +41,7 @@ fn adds<K: Kind>(a: u64, b: u64, want: (u64, u64)) -> bool {
 }
 
 pub(crate) fn compare() -> Tally {
-    let mut tally = Tally::new();
+    let mut tally = Tally::default();
     tally.note(!Binary64::is_number(0x7FF0_0000_0000_0000));
     tally.note(read::<Binary64>(&[Entry::Post(TOP)], Ok(TOP)));
     tally.note(!Count::is_number(0x8000_0000));

@@ -2,14 +2,12 @@
 #![tactic(auto)]
 
 mod examples;
-mod generator;
 mod machine;
 mod pairs;
 mod published;
 mod sessions;
 mod tally;
 
-use crate::generator::Words;
 use crate::tally::Tally;
 use accounts::register_account::RegisterAccount;
 use binary::format::{Binary32, Binary64};
@@ -17,6 +15,8 @@ use kinds::count::Count;
 use kinds::kind::Kind;
 use layers::quota::{Quota, QuotaSetup};
 use layers::staged::Staged;
+use rand_core::SeedableRng;
+use rand_xoshiro::SplitMix64;
 use slips::slips::Slips;
 use std::io;
 use std::io::Read;
@@ -36,10 +36,10 @@ fn print(rt: &HostRuntime, family: &str, tally: Tally) -> io::Result<()> {
 }
 
 // Sessions of one kind: a staged register account beside slips under a quota.
-fn both_accounts<K: Kind>(greatest: u64, words: &mut Words) -> Tally {
-    let mut tally = Tally::new();
+fn both_accounts<K: Kind>(greatest: u64, words: &mut SplitMix64) -> Tally {
+    let mut tally = Tally::default();
     for _ in 0..SESSIONS {
-        sessions::compare::<K, Staged<RegisterAccount>, Quota<Slips>>(
+        sessions::compare::<K, Staged<K, RegisterAccount>, Quota<K, Slips<K>>>(
             (),
             QuotaSetup {
                 most: 63,
@@ -54,7 +54,7 @@ fn both_accounts<K: Kind>(greatest: u64, words: &mut Words) -> Tally {
 }
 
 fn main(rt: HostRuntime) -> io::Result<()> {
-    let mut words = Words::new(2026);
+    let mut words = SplitMix64::seed_from_u64(2026);
     print(&rt, "worked examples", examples::compare())?;
     let wide = pairs::compare::<Binary64>(PAIRS, &mut words);
     print(&rt, "binary64, sum against the machine's", wide.sums)?;

@@ -1,5 +1,4 @@
 //! Sums with their correctly rounded results, as they were published. A line names a source, after `#`, or has a result and the numbers of its sum, by their patterns.
-use crate::sessions::alike;
 use crate::tally::Tally;
 use accounts::readings::{Entry, readings};
 use accounts::register_account::RegisterAccount;
@@ -10,10 +9,7 @@ use std::alloc::{AllocError, Global};
 
 // A pattern by its hexadecimal digits; what is none reads as no number.
 fn pattern(word: &str) -> u64 {
-    match u64::from_str_radix(word, 16) {
-        Ok(p) => p,
-        Err(_) => u64::MAX,
-    }
+    u64::from_str_radix(word, 16).unwrap_or(u64::MAX)
 }
 
 fn result(word: &str) -> Result<u64, Refusal> {
@@ -30,26 +26,20 @@ fn line(heap: Global, text: &str, tally: &mut Tally) -> Result<(), AllocError> {
     let Some(first) = words.next() else {
         return Ok(());
     };
-    let mut entries = Vec::new(heap);
-    for word in words {
-        entries.push(Entry::Post(pattern(word)))?;
-    }
-    let mut backwards = Vec::new(heap);
-    for entry in entries.as_slice().iter().rev() {
-        backwards.push(*entry)?;
-    }
-    let (one, other) = readings::<Binary64, RegisterAccount, Staged<RegisterAccount>>(
+    let entries: Vec<Entry> = words.map(|word| Entry::Post(pattern(word))).collect(heap)?;
+    let backwards: Vec<Entry> = entries.iter().rev().copied().collect(heap)?;
+    let (one, other) = readings::<Binary64, RegisterAccount, Staged<Binary64, RegisterAccount>>(
         (),
-        entries.as_slice(),
+        &entries,
         (),
-        backwards.as_slice(),
+        &backwards,
     );
-    tally.note(alike(one, result(first)) && alike(other, result(first)));
+    tally.note(one == result(first) && other == result(first));
     Ok(())
 }
 
 pub(crate) fn compare(heap: Global, table: &str) -> Result<Tally, AllocError> {
-    let mut tally = Tally::new();
+    let mut tally = Tally::default();
     for text in table.lines() {
         if !text.starts_with('#') {
             line(heap, text, &mut tally)?;

@@ -1,18 +1,11 @@
 /// How many cases were compared, and how many of them differ.
-#[derive(Clone, Copy)]
+#[derive(Clone, Copy, Default)]
 pub(crate) struct Tally {
     pub(crate) compared: u32,
     pub(crate) differ: u32,
 }
 
 impl Tally {
-    pub(crate) fn new() -> Tally {
-        Tally {
-            compared: 0,
-            differ: 0,
-        }
-    }
-
     pub(crate) fn note(&mut self, same: bool) {
         self.compared = self.compared.saturating_add(1);
         if !same {
