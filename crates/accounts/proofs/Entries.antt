@@ -1,15 +1,32 @@
 -- An account that means what its accepted entries come to, before and after an entry.
-use Rattle.std.proofs.Common.{◌≡◌, ℕ, ◌+◌, Bool, true, false, cond, List, [], ◌∷◌, ◌++◌, length, ℤ, pos, ◌+ℤ◌, is_ok, sym, refl, ap, ◌∙◌}
+use Rattle.std.proofs.Common.{◌≡◌, ℕ, ◌+◌, Bool, true, false, cond, List, [], ◌∷◌, ◌++◌, length, ℤ, pos, ◌+ℤ◌, is_ok, Option, Result, sym, refl, ap, ◌∙◌}
 use lib.IntN.{+ℤ_assoc, +ℤ_comm, +ℤ_idr}
 use Rattle.std.proofs.lemmas.List.{length_push}
 use Rattle.std.proofs.lemmas.List.Sums.{fold_push}
+use Rattle.std.proofs.lemmas.List.{map-id}
+use Rattle.std.proofs.lemmas.Iterator.{YieldsList, items_from_drains}
+use Rattle.std.specs.Iterator.{Drains}
 use Rattle.join.proofs.Orders.{reordered}
 use Rattle.kinds.specs.declared.kind.Kind.{Ghosts}
 use Rattle.accounts.specs.Meaning.{Meaning, with_entry, entry_answer}
-use Rattle.accounts.specs.Entries.{sum_of, meant, entered, AnyOrder}
+use Rattle.accounts.specs.Entries.{sum_of, meant, entered, accepted, AnyOrder, Readings}
+use Rattle.accounts.specs.declared.readings.Entry.{Entry}
+use Rattle.kinds.specs.Answer.{answered}
+use Rattle.refusals.specs.declared.Refusal.{Refusal}
 
 pub any_order_lem : AnyOrder
 any_order_lem ws vs p = reordered +ℤ_assoc +ℤ_comm +ℤ_idr p
+
+-- what a chain gives that yields a list of entries
+pub drained : {S : Type 0} {steps : S → Option Entry → S → Type 0} {s : S} {all : List Entry} (es : List Entry) → Drains steps s es → YieldsList steps (λ e. e) s all → es ≡ all
+drained es d y = sym (map-id es) ∙ items_from_drains es (d.1.0, d.1.1, λ _. (d.0, d.1.2)) y
+
+-- two accounts that read what their accepted entries come to
+pub readings_alike : {K : Type 0} (k : Ghosts K) (most more : ℕ) (first second : List Entry) (one other : Result ℕ Refusal)
+    → one ≡ answered (k.outcome (sum_of (accepted k most first))) → other ≡ answered (k.outcome (sum_of (accepted k more second))) → Readings k most more first second one other
+readings_alike k most more first second one other e f =
+    let alike : sum_of (accepted k most first) ≡ sum_of (accepted k more second) → one ≡ other = λ h. e ∙ ap (λ (z : ℤ). answered (k.outcome z)) h ∙ sym f in
+    record { exact_one = e; exact_other = f; alike = alike; any_order = λ r. alike (any_order_lem _ _ r) }
 
 abbrev mean : ℤ → ℕ → ℕ → Meaning
 mean t n l = record { total = t; entries = n; limit = l }

@@ -1,7 +1,9 @@
 //! What two accounts read: equal exact sums read alike, whatever the accounts are made of and whichever order their entries had.
 ghost use Rattle.std.specs.Prelude.{◌≡◌, ℕ, List, ℤ};
+ghost use Rattle.std.specs.Iterator.{Drains, IsFinite};
 ghost use Rattle.kinds.specs.Answer.{answered};
-ghost use Rattle.accounts.specs.Entries.{sum_of, meant, entered_by, accepted, AnyOrder, Readings};
+ghost use Rattle.accounts.specs.Entries.{sum_of, meant, entered_by, accepted, Readings};
+ghost use Rattle.accounts.specs.declared.readings.Entry.{Entry};
 
 use crate::account::Account;
 use kinds::kind::Kind;
@@ -24,17 +26,18 @@ fn enter<K: Kind, A: Account<K>>(account: &mut A, entry: Entry)
     };
 }
 
-// What a fresh account reads once it has been asked for these entries.
-fn reading<K: Kind, A: Account<K> + Drop>(
+/// Opens an account, asks it for the entries in their order, and reads it.
+pub fn reading<K: Kind, A: Account<K> + Drop, I: Iterator<Item = Entry> + Drop>(
     setup: A::Setup,
-    entries: &[Entry],
+    entries: I,
 ) -> Result<u64, Refusal>
-    ensures exact { result ≡ answered (K.Kind.outcome (sum_of (accepted K.Kind (A.Account.agreed setup) entries.now))) }
-    ensures order { AnyOrder }
+    requires can { I.can_next entries }
+    requires ends { IsFinite (I.remaining entries) }
+    ensures { (es : List Entry) × Drains I.next_gives entries es × (result ≡ answered (K.Kind.outcome (sum_of (accepted K.Kind (A.Account.agreed setup) es)))) }
 {
     let mut account = A::open(setup);
     for entry in entries {
-        enter::<K, A>(&mut account, *entry);
+        enter::<K, A>(&mut account, entry);
     }
     account.read()
 }
@@ -48,5 +51,8 @@ pub fn readings<K: Kind, A: Account<K> + Drop, B: Account<K> + Drop>(
 ) -> (Result<u64, Refusal>, Result<u64, Refusal>)
     ensures { Readings K.Kind (A.Account.agreed one) (B.Account.agreed other) first.now second.now result.0 result.1 }
 {
-    (reading::<K, A>(one, first), reading::<K, B>(other, second))
+    (
+        reading::<K, A, _>(one, first.iter().copied()),
+        reading::<K, B, _>(other, second.iter().copied()),
+    )
 }

@@ -1,12 +1,13 @@
 -- What the exported calls answer, in words of 64 bits.
-use Rattle.std.specs.Prelude.{ℕ, ◌-◌, cond, ◌&&◌, List, [], ℤ, Ok, Err, fold, Result}
+use Rattle.std.specs.Prelude.{ℕ, ◌-◌, cond, ◌&&◌, List, map, Ok, Err, Result}
 use Rattle.refusals.specs.Told.{told}
 use Rattle.refusals.specs.declared.Refusal.{Refusal}
 use Rattle.numbers.specs.Coding.{Coding}
 use Rattle.kinds.specs.Answer.{answered}
 use Rattle.kinds.specs.Coded.{coded}
 use Rattle.kinds.specs.declared.kind.Kind.{Ghosts}
-use Rattle.accounts.specs.Entries.{sum_of, entered}
+use Rattle.accounts.specs.Entries.{sum_of, accepted}
+use Rattle.accounts.specs.declared.readings.Entry.TheVariants.{Post}
 
 -- a reading in one word: its number, or all ones less the number of its refusal, which is no number of 32 or 64 bits
 abbrev pub marked : Result ℕ Refusal → ℕ
@@ -18,13 +19,9 @@ module _ {K : Type 0} (k : Ghosts K) where
   abbrev pub sums : ℕ → ℕ → ℕ × ℕ
   sums a b = cond (k.number a && k.number b) (k.adder a b) (0, 0)
 
-  -- the worths of the accepted ones of some patterns, each posted after those before it
-  abbrev pub posted : ℕ → List ℕ → List ℤ
-  posted most ps = fold (λ (ws : List ℤ) (p : ℕ). entered k most p (k.worth p) ws) [] ps
-
   -- what a fresh account of this limit reads after these posts
   abbrev pub reads : ℕ → List ℕ → ℕ
-  reads most ps = marked (answered (k.outcome (sum_of (posted most ps))))
+  reads most ps = marked (answered (k.outcome (sum_of (accepted k most (map Post ps)))))
 
 -- the same of a coding
 abbrev pub sums_by : Coding → ℕ → ℕ → ℕ × ℕ

@@ -31,8 +31,8 @@ fn settled() -> bool {
 fn no_plan() -> bool {
     let mut slots = [0; 4];
     let mut column = [0; 4];
-    pass::<Binary64>(&mut slots, &mut column, b"(.)(..)")
-        .is_err_and(|why| why.number() == 11 && why.place() == 2)
+    pass::<Binary64>(&mut slots, &mut column, b"(.)(..)").is_err_and(|why| why.number() == 11
+        && why.place() == 2)
 }
 
 // Whether the adder gives these two.

@@ -39,7 +39,8 @@ fn pair<M: Machine>(i: u32, words: &mut SplitMix64) -> (u64, u64) {
         3 => {
             let digits = M::LEAD.trailing_zeros() as u64 + 1;
             let half = M::LEAD.wrapping_mul(exponent.saturating_sub(digits));
-            half.wrapping_add(words.next_u64() & 1) | (words.next_u64() & 1).wrapping_mul(sign::<M>())
+            half.wrapping_add(words.next_u64() & 1)
+                | (words.next_u64() & 1).wrapping_mul(sign::<M>())
         }
         _ => number::<M>(words.next_u64() & 1, words),
     };

@@ -1,6 +1,6 @@
 //! Sums with their correctly rounded results, as they were published. A line names a source, after `#`, or has a result and the numbers of its sum, by their patterns.
 use crate::tally::Tally;
-use accounts::readings::{Entry, readings};
+use accounts::readings::{Entry, reading};
 use accounts::register_account::RegisterAccount;
 use binary::format::Binary64;
 use layers::staged::Staged;
@@ -27,12 +27,10 @@ fn line(heap: Global, text: &str, tally: &mut Tally) -> Result<(), AllocError> {
         return Ok(());
     };
     let entries: Vec<Entry> = words.map(|word| Entry::Post(pattern(word))).collect(heap)?;
-    let backwards: Vec<Entry> = entries.iter().rev().copied().collect(heap)?;
-    let (one, other) = readings::<Binary64, RegisterAccount, Staged<Binary64, RegisterAccount>>(
+    let one = reading::<Binary64, RegisterAccount, _>((), entries.iter().copied());
+    let other = reading::<Binary64, Staged<Binary64, RegisterAccount>, _>(
         (),
-        &entries,
-        (),
-        &backwards,
+        entries.iter().rev().copied(),
     );
     tally.note(one == result(first) && other == result(first));
     Ok(())
