@@ -28,8 +28,8 @@ hex_at (suc k) n i h =
     ]
 
 -- a byte that is no digit stands in no number
-pub no_hex : (xs : List ℕ) (i : ℕ) → i < length xs → ((d : ℕ) → d < 16 → get_or xs i 0 ≡ digit_text d → ⊥) → NoText (hex_text (length xs)) xs
-no_hex xs i h none n e = let r = hex_at (length xs) n i h in none r.0 r.1.0 (ap (λ ys. get_or ys i 0) e ∙ r.1.1)
+pub no_hex : (k : ℕ) (xs : List ℕ) (i : ℕ) → i < k → ((d : ℕ) → d < 16 → get_or xs i 0 ≡ digit_text d → ⊥) → NoText (hex_text k) xs
+no_hex k xs i h none n e = let r = hex_at k n i h in none r.0 r.1.0 (ap (λ ys. get_or ys i 0) e ∙ r.1.1)
 
 -- one digit more
 pub hex_push : (k n d : ℕ) → d < 16 → hex_text k n ++ (digit_text d ∷ []) ≡ hex_text (k + 1) (n * 16 + d)

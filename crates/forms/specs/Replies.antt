@@ -1,8 +1,9 @@
 -- The lines that are written.
-use Rattle.std.specs.Prelude.{ℕ, List, [], ◌∷◌, ◌++◌, codes, decimal}
+use Rattle.std.specs.Prelude.{ℕ, List, [], ◌∷◌, ◌++◌, codes, decimal, Ok, Err, Result}
 use Rattle.refusals.specs.Told.{told}
-use Rattle.forms.specs.declared.words.Answer.{Answer}
-use Rattle.forms.specs.declared.words.Answer.TheVariants.{Done, Number, Refused}
+use Rattle.refusals.specs.declared.Refusal.{Refusal}
+use Rattle.forms.specs.declared.words.Reply.{Reply}
+use Rattle.forms.specs.declared.words.Reply.TheVariants.{Done, Number}
 use Rattle.forms.specs.Text.{hex_text}
 
 -- the bracket and the end of the line
@@ -20,10 +21,10 @@ abbrev pub pair_reply : List ℕ → ℕ → ℕ → List ℕ
 pair_reply word a b = word ++ (decimal a ++ (codes " " ++ (decimal b ++ closing)))
 
 -- the line of an answer, with k digits to a number
-abbrev pub answer_text : ℕ → Answer → List ℕ
-answer_text k Done = codes "(ok" ++ closing
-answer_text k (Number p) = number_reply k p
-answer_text k (Refused why) = refused_reply (told why).number
+abbrev pub answer_text : ℕ → Result Reply Refusal → List ℕ
+answer_text k (Ok Done) = codes "(ok" ++ closing
+answer_text k (Ok (Number p)) = number_reply k p
+answer_text k (Err why) = refused_reply (told why).number
 
 -- the last line, with the counts of the left and of the right
 abbrev pub end_text : ℕ → ℕ → List ℕ

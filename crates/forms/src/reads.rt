@@ -1,12 +1,13 @@
 //! What a line asks for.
-ghost use Rattle.std.specs.Prelude.{◌≡◌, ◌^◌, ◌<◌, ◌≤◌, ◌++◌, length, MatchOption};
-ghost use Rattle.forms.specs.Text.{name_text, word_text, side_text, closed_side, hex_text, number_text, amount_text, NoText, NoFront, DigitMeans, NumberMeans, VisitMeans, KindMeans};
+ghost use Rattle.std.specs.Prelude.{◌≡◌, ◌^◌, ◌<◌, ◌≤◌, ◌++◌, MatchOption};
+ghost use Rattle.forms.specs.Text.{word_text, side_text, hex_text, number_text, NoFront, DigitMeans, NumberMeans, VisitMeans, KindMeans};
 ghost use Rattle.forms.specs.Read.{read_visit, read_kind, VisitsExact, KindsExact};
 
 use crate::words::{KindName, Side, Visit, Word};
 
 /// The visit that a line asks for, where a number has so many capital hexadecimal digits.
 /// None where the line is the text of no visit.
+#[tactic(auto, using(crate::proofs::Reading::visits_exact, crate::proofs::Reading::visit_value))]
 pub fn read_visit(digits: usize, line: &[u8]) -> Option<Visit>
     requires { digits ≤ 16 }
     ensures means { VisitMeans digits line.now result }
@@ -17,6 +18,7 @@ pub fn read_visit(digits: usize, line: &[u8]) -> Option<Visit>
 }
 
 /// The kind that a line names. None where the line is the text of no kind.
+#[tactic(auto, using(crate::proofs::Reading::kinds_exact, crate::proofs::Reading::kind_value))]
 pub fn read_kind(line: &[u8]) -> Option<KindName>
     ensures means { KindMeans line.now result }
     ensures value { result ≡ read_kind line.now }
@@ -25,41 +27,30 @@ pub fn read_kind(line: &[u8]) -> Option<KindName>
     kind_of(line)
 }
 
+// The digits stay a number with a bound: the public calls take any `usize` up to 16.
+#[tactic(auto, using(crate::proofs::Numbers::no_visit))]
 fn visit_of(digits: usize, line: &[u8]) -> Option<Visit>
     requires { digits ≤ 16 }
     ensures { VisitMeans digits line.now result }
 {
     let (word, rest) = split_word(line)?;
-    match word {
-        Word::Post => {
-            let (side, n) = amount(digits, rest)?;
-            Some(Visit::Post(side, n))
-        }
-        Word::Withdraw => {
-            let (side, n) = amount(digits, rest)?;
-            Some(Visit::Withdraw(side, n))
-        }
-        Word::Read => Some(Visit::Read(last_side(rest)?)),
+    let (side, rest) = split_side(rest)?;
+    match (word, rest) {
+        (Word::Post, _) => Some(Visit::Post(side, last_number(digits, rest)?)),
+        (Word::Withdraw, _) => Some(Visit::Withdraw(side, last_number(digits, rest)?)),
+        (Word::Read, b")") => Some(Visit::Read(side)),
+        (Word::Read, _) => None,
     }
 }
 
+// The whole line, so that no bare name is left to convert.
 fn kind_of(line: &[u8]) -> Option<KindName>
     ensures { KindMeans line.now result }
 {
-    let [b'(', b'k', b'i', b'n', b'd', b' ', rest @ ..] = line else {
-        return None;
-    };
-    kind_name(rest)
-}
-
-// A kind's name and the closing bracket.
-fn kind_name(text: &[u8]) -> Option<KindName>
-    ensures { MatchOption result (NoText name_text text.now) (λ n. text.now ≡ name_text n) }
-{
-    match text {
-        [b'b', b'i', b'n', b'a', b'r', b'y', b'6', b'4', b')'] => Some(KindName::Binary64),
-        [b'b', b'i', b'n', b'a', b'r', b'y', b'3', b'2', b')'] => Some(KindName::Binary32),
-        [b'c', b'o', b'u', b'n', b't', b')'] => Some(KindName::Count),
+    match line {
+        b"(kind binary64)" => Some(KindName::Binary64),
+        b"(kind binary32)" => Some(KindName::Binary32),
+        b"(kind count)" => Some(KindName::Count),
         _ => None,
     }
 }
@@ -68,23 +59,12 @@ fn kind_name(text: &[u8]) -> Option<KindName>
 fn split_word(line: &[u8]) -> Option<(Word, &[u8])>
     ensures { MatchOption result (NoFront word_text line.now) (λ p. line.now ≡ word_text p.0 ++ p.1.now) }
 {
-    match line {
-        [b'(', b'p', b'o', b's', b't', b' ', rest @ ..] => Some((Word::Post, rest)),
-        [
-            b'(',
-            b'w',
-            b'i',
-            b't',
-            b'h',
-            b'd',
-            b'r',
-            b'a',
-            b'w',
-            b' ',
-            rest @ ..,
-        ] => Some((Word::Withdraw, rest)),
-        [b'(', b'r', b'e', b'a', b'd', b' ', rest @ ..] => Some((Word::Read, rest)),
-        _ => None,
+    if let Some(rest) = line.strip_prefix(b"(post ") {
+        Some((Word::Post, rest))
+    } else if let Some(rest) = line.strip_prefix(b"(withdraw ") {
+        Some((Word::Withdraw, rest))
+    } else {
+        Some((Word::Read, line.strip_prefix(b"(read ")?))
     }
 }
 
@@ -92,31 +72,7 @@ fn split_word(line: &[u8]) -> Option<(Word, &[u8])>
 fn split_side(text: &[u8]) -> Option<(Side, &[u8])>
     ensures { MatchOption result (NoFront side_text text.now) (λ p. text.now ≡ side_text p.0 ++ p.1.now) }
 {
-    match text {
-        [b'l', b'e', b'f', b't', rest @ ..] => Some((Side::Left, rest)),
-        _ => None,
-    }
-}
-
-// A side and the closing bracket.
-fn last_side(text: &[u8]) -> Option<Side>
-    ensures { MatchOption result (NoText closed_side text.now) (λ s. text.now ≡ closed_side s) }
-{
-    let (side, rest) = split_side(text)?;
-    match rest {
-        [b')'] => Some(side),
-        _ => None,
-    }
-}
-
-// A side and a number.
-fn amount(digits: usize, text: &[u8]) -> Option<(Side, u64)>
-    requires { digits ≤ 16 }
-    ensures { MatchOption result ((s : Side) → NoText (amount_text digits s) text.now) (λ p. (text.now ≡ amount_text digits p.0 p.1) × (p.1 < 16 ^ digits)) }
-{
-    let (side, rest) = split_side(text)?;
-    let n = last_number(digits, rest)?;
-    Some((side, n))
+    Some((Side::Left, text.strip_prefix(b"left")?))
 }
 
 // A blank, a number and the closing bracket.
@@ -124,19 +80,18 @@ fn last_number(digits: usize, text: &[u8]) -> Option<u64>
     requires { digits ≤ 16 }
     ensures { NumberMeans number_text digits text.now result }
 {
-    match text {
-        [b' ', rest @ ..] if rest.len() == digits + 1 && rest[digits] == b')' => {
-            hex_number(&rest[..digits])
-        }
-        _ => None,
-    }
+    hex_number(digits, text.strip_prefix(b" ")?.strip_suffix(b")")?)
 }
 
-// A number in as many capital hexadecimal digits as the text has bytes.
-fn hex_number(text: &[u8]) -> Option<u64>
-    requires { length text.now ≤ 16 }
-    ensures { NumberMeans hex_text (length text.now) text.now result }
+// A number in so many hexadecimal digits: by hand, since `from_str_radix` takes small letters and a plus as well.
+#[tactic(auto, using(crate::proofs::Hexes::length_hex))]
+fn hex_number(digits: usize, text: &[u8]) -> Option<u64>
+    requires { digits ≤ 16 }
+    ensures { NumberMeans hex_text digits text.now result }
 {
+    if text.len() != digits {
+        return None;
+    }
     let mut n = 0u64;
     for b in text {
         let d = digit(*b)?;
@@ -145,7 +100,7 @@ fn hex_number(text: &[u8]) -> Option<u64>
     Some(n)
 }
 
-// What a capital hexadecimal digit is worth.
+// What a hexadecimal digit is worth, where letters are capital ones: `char::to_digit` takes small ones too.
 fn digit(b: u8) -> Option<u8>
     ensures { DigitMeans b result }
 {

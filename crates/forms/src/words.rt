@@ -1,6 +1,4 @@
 //! What the lines speak of.
-use refusals::Refusal;
-
 /// A kind that a session can be opened for.
 #[derive(Clone, Copy, PartialEq, Eq, Debug)]
 pub enum KindName {
@@ -23,12 +21,11 @@ pub enum Visit {
     Read(Side),
 }
 
-/// What a line is answered: that it is done, a number, or why it is refused.
-#[derive(Clone, Copy)]
-pub enum Answer {
+/// What a granted line is answered: that it is done, or a number.
+#[derive(Clone, Copy, PartialEq, Eq, Debug)]
+pub enum Reply {
     Done,
     Number(u64),
-    Refused(Refusal),
 }
 
 /// The first word of a line that asks for a visit.

@@ -1,12 +1,16 @@
 //! The lines of answer, written where there is room for them.
-ghost use Rattle.std.specs.Prelude.{◌≡◌, ◌+◌, ◌<◌, ◌≤◌, ◌++◌, length, vec_len, vec_capacity, decimal};
+ghost use Rattle.std.specs.Prelude.{◌≡◌, ◌+◌, ◌<◌, ◌≤◌, ◌++◌, length, vec_len, vec_capacity};
 ghost use Rattle.forms.specs.Text.{digit_text, hex_text};
-ghost use Rattle.forms.specs.Replies.{number_reply, refused_reply, pair_reply, answer_text, end_text, answer_most, end_most};
+ghost use Rattle.forms.specs.Replies.{answer_text, end_text, answer_most, end_most};
 
-use crate::words::Answer;
+use crate::words::Reply;
+use arrayvec::ArrayVec;
+use itoa::Buffer;
+use refusals::Refusal;
 
 /// Writes the line of an answer, a number by so many of its last hexadecimal digits.
-pub fn write_answer(digits: usize, answer: Answer, out: &mut Vec<u8>)
+#[tactic(auto, using(crate::proofs::Hexes::length_hex))]
+pub fn write_answer(digits: usize, answer: Result<Reply, Refusal>, out: &mut Vec<u8>)
     requires few { digits ≤ 16 }
     requires room { vec_len out.old + answer_most ≤ vec_capacity out.old }
     ensures items { out.new.items ≡ out.old.items ++ answer_text digits answer }
@@ -14,9 +18,17 @@ pub fn write_answer(digits: usize, answer: Answer, out: &mut Vec<u8>)
     ensures capacity { vec_capacity out.old ≤ vec_capacity out.new }
 {
     match answer {
-        Answer::Done => write_text(b"(ok)\n", out),
-        Answer::Number(p) => write_number(digits, p, out),
-        Answer::Refused(why) => write_refused(why.number(), out),
+        Ok(Reply::Done) => write_text(b"(ok)\n", out),
+        Ok(Reply::Number(p)) => {
+            write_text(b"(number ", out);
+            write_text(hex(digits, p).as_slice(), out);
+            write_text(b")\n", out);
+        }
+        Err(why) => {
+            write_text(b"(refused ", out);
+            write_text(Buffer::new().format(why.number()).as_bytes(), out);
+            write_text(b")\n", out);
+        }
     }
 }
 
@@ -27,60 +39,28 @@ pub fn write_end(left: u32, right: u32, out: &mut Vec<u8>)
     ensures len { vec_len out.new ≤ vec_len out.old + end_most }
     ensures capacity { vec_capacity out.old ≤ vec_capacity out.new }
 {
-    write_pair(b"(end ", left, right, out);
-}
-
-fn write_number(digits: usize, p: u64, out: &mut Vec<u8>)
-    requires few { digits ≤ 16 }
-    requires room { vec_len out.old + answer_most ≤ vec_capacity out.old }
-    ensures items { out.new.items ≡ out.old.items ++ number_reply digits p }
-    ensures len { vec_len out.new ≤ vec_len out.old + answer_most }
-    ensures capacity { vec_capacity out.old ≤ vec_capacity out.new }
-{
-    write_text(b"(number ", out);
-    write_hex(digits, p, out);
-    write_text(b")\n", out);
-}
-
-fn write_refused(number: u8, out: &mut Vec<u8>)
-    requires { vec_len out.old + answer_most ≤ vec_capacity out.old }
-    ensures items { out.new.items ≡ out.old.items ++ refused_reply number }
-    ensures len { vec_len out.new ≤ vec_len out.old + answer_most }
-    ensures capacity { vec_capacity out.old ≤ vec_capacity out.new }
-{
-    write_text(b"(refused ", out);
-    write_decimal(number as u32, out);
-    write_text(b")\n", out);
-}
-
-// A word, which has its bracket and its blank, and two numbers.
-fn write_pair(word: &[u8], first: u32, second: u32, out: &mut Vec<u8>)
-    requires { vec_len out.old + (length word.now + 23) ≤ vec_capacity out.old }
-    ensures items { out.new.items ≡ out.old.items ++ pair_reply word.now first second }
-    ensures len { vec_len out.new ≤ vec_len out.old + (length word.now + 23) }
-    ensures capacity { vec_capacity out.old ≤ vec_capacity out.new }
-{
-    write_text(word, out);
-    write_decimal(first, out);
+    write_text(b"(end ", out);
+    write_text(Buffer::new().format(left).as_bytes(), out);
     write_text(b" ", out);
-    write_decimal(second, out);
+    write_text(Buffer::new().format(right).as_bytes(), out);
     write_text(b")\n", out);
 }
 
 // The last digits of n.
-fn write_hex(digits: usize, n: u64, out: &mut Vec<u8>)
-    requires { vec_len out.old + digits ≤ vec_capacity out.old }
-    ensures items { out.new.items ≡ out.old.items ++ hex_text digits n }
-    ensures len { vec_len out.new ≡ vec_len out.old + digits }
-    ensures capacity { vec_capacity out.old ≤ vec_capacity out.new }
+#[tactic(auto, using(crate::proofs::Hexes::length_hex))]
+fn hex(digits: usize, n: u64) -> ArrayVec<u8, 16>
+    requires { digits ≤ 16 }
+    ensures { result.items ≡ hex_text digits n }
 {
     if digits == 0 {
-        return;
+        return ArrayVec::new();
     }
-    write_hex(digits - 1, n / 16, out);
-    out.push_reserved(digit_byte((n % 16) as u8));
+    let mut text = hex(digits - 1, n / 16);
+    text.push(digit_byte((n % 16) as u8));
+    text
 }
 
+// The capital digit: `char::from_digit` gives a small letter.
 fn digit_byte(d: u8) -> u8
     requires { d < 16 }
     ensures { result ≡ digit_text d }
@@ -88,26 +68,10 @@ fn digit_byte(d: u8) -> u8
     if d < 10 { b'0' + d } else { b'A' + (d - 10) }
 }
 
-fn write_decimal(n: u32, out: &mut Vec<u8>)
-    requires { vec_len out.old + 10 ≤ vec_capacity out.old }
-    ensures items { out.new.items ≡ out.old.items ++ decimal n }
-    ensures len { vec_len out.new ≡ vec_len out.old + length (decimal n) }
-    ensures short { length (decimal n) ≤ 10 }
-    ensures capacity { vec_capacity out.old ≤ vec_capacity out.new }
-{
-    if n < 10 {
-        out.push_reserved(b'0' + n as u8);
-    } else {
-        write_decimal(n / 10, out);
-        out.push_reserved(b'0' + (n % 10) as u8);
-    }
-}
-
 // There is room, so nothing is allocated and nothing refused.
 fn write_text(text: &[u8], out: &mut Vec<u8>)
     requires { vec_len out.old + length text.now ≤ vec_capacity out.old }
     ensures items { out.new.items ≡ out.old.items ++ text.now }
-    ensures len { vec_len out.new ≡ vec_len out.old + length text.now }
     ensures capacity { vec_capacity out.old ≤ vec_capacity out.new }
 {
     let _ = out.extend_from_slice(text);

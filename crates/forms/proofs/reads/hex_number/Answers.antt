@@ -1,5 +1,5 @@
 -- Digit by digit, n fits 64 bits and stays the number whose digits were read.
-use Rattle.std.proofs.Common.{◌≡◌, ◌+◌, ◌*◌, ◌^◌, ◌<◌, [], ◌∷◌, ◌++◌, length, get_or, sym, ap, ◌∙◌, subst, arith, take_all}
+use Rattle.std.proofs.Common.{◌+◌, ◌*◌, ◌^◌, ◌<◌, [], ◌∷◌, ◌++◌, get_or, ap, ◌∙◌, arith}
 use Rattle.std.proofs.lemmas.List.{take_more}
 use Rattle.forms.specs.Text.{hex_text}
 use Rattle.forms.proofs.Hexes.{hex_push, hex_room, hex_fits, no_hex}
@@ -7,7 +7,7 @@ use Rattle.forms.proofs.reads.hex_number.Goals as goal
 
 pub returns-in_err-d : goal.returns-in_err-d
 returns-in_err-d c =
-    rw c.from_residual.ensures (no_hex c.args.text.now c.loop-b.b-index c.loop-b-test.true c.in_err-d.ensures)
+    rw c.from_residual.ensures (no_hex c.args.digits c.args.text.now c.loop-b.b-index (omega arith) c.in_err-d.ensures)
 
 fits : (c : goal.In_ok-d) → c.loop-b.n * 16 + c.in_ok-d.d < 2 ^ 64
 fits c =
@@ -30,14 +30,4 @@ loop-b-preserved c =
           ∙ ap (λ b. hex_text i n ++ (b ∷ [])) c.in_ok-d.ensures.1
           ∙ hex_push i n d c.in_ok-d.ensures.0,
       hex_room i n d c.in_ok-d.ensures.0 c.loop-b.invariant.1,
-    )
-
-pub returns : goal.returns
-returns c =
-    let i = c.loop-b.b-index in
-    let n = c.loop-b.n in
-    let xs = c.args.text.now in
-    let e : i ≡ length xs = omega arith in (
-      sym (take_all i xs c.loop-b-test.false) ∙ c.loop-b.invariant.0 ∙ ap (λ k. hex_text k n) e,
-      subst (λ k. n < 16 ^ k) e c.loop-b.invariant.1,
     )

@@ -1,23 +1,12 @@
--- Between the blank and the bracket stand the digits.
-use Rattle.std.proofs.Common.{◌≡◌, ℕ, ◌-◌, ◌≤◌, List, ◌∷◌, length, get_or, take, drop, codes, rules}
-use Rattle.forms.proofs.Fronts.{opened}
-use Rattle.forms.proofs.Numbers.{number_ends, number_means}
+use Rattle.std.proofs.Common.{Some, codes, rules}
+use Rattle.std.proofs.lemmas.Bool.Decides.{Decides-eqb}
+use Rattle.std.proofs.lemmas.Slice.Eq.{strip_suffix_is}
+use Rattle.forms.proofs.Numbers.{number_means}
 use Rattle.forms.proofs.reads.last_number.Goals as goal
 
-after_blank : (xs : List ℕ) → 1 ≤ length xs → get_or xs 0 0 ≡ 32 → xs ≡ 32 ∷ take (length xs - 1) (drop 1 xs)
-after_blank xs l b = opened (codes " ") xs l (b, tt)
-
-pub returns-in_default-3 : goal.returns-in_default-3
-returns-in_default-3 c n f =
-    let e = after_blank c.args.text.now (search rules) (search rules) in
-    c.if-rest-digits.false (number_ends c.args.digits n _ _ e f).0
-
-pub returns-in_default-2 : goal.returns-in_default-2
-returns-in_default-2 c n f =
-    let e = after_blank c.args.text.now (search rules) (search rules) in
-    c.if-rest-digits-eq41.false (number_ends c.args.digits n _ _ e f).1
-
-pub returns-in-32 : goal.returns-in-32
-returns-in-32 c =
-    let e = after_blank c.args.text.now (search rules) (search rules) in
-    number_means c.args.digits _ _ c.hex_number.result e c.if-rest-digits.true c.if-rest-digits-eq41.true c.hex_number.ensures
+pub returns : goal.returns
+returns c =
+    let rest = c.in_ok-strip_prefix.field-0.now in
+    let number = c.in_ok-strip_suffix.field-0 in
+    number_means c.args.digits c.args.text.now rest number.now c.hex_number.result (search rules)
+    (strip_suffix_is Decides-eqb rest (codes ")") (Some number) c.in_ok-strip_suffix.ensures.cases) c.hex_number.ensures
