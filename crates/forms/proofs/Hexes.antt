@@ -1,9 +1,10 @@
 -- Hexadecimal digits, one by one.
-use Rattle.std.proofs.Common.{◌≡◌, ℕ, zero, suc, ◌+◌, ◌*◌, ◌/◌, ◌%◌, ◌^◌, ◌<◌, ◌≤◌, List, [], ◌∷◌, ◌++◌, length, get_or, sym, refl, ap, ◌∙◌, subst, inl, inr, mod-lt, pow-suc, add-one, arith}
+use Rattle.std.proofs.Common.{◌≡◌, ℕ, zero, suc, ◌+◌, ◌*◌, ◌/◌, ◌%◌, ◌^◌, ◌<◌, ◌≤◌, List, [], ◌∷◌, ◌++◌, length, get_or, sym, refl, ap, ◌∙◌, subst, mod-lt, pow-suc, add-one, arith}
 use native.Mathlib.Nat.{pow-le-pow_right}
 use lib.Arith.{digits_lt, digits_div, digits_mod}
-use Rattle.std.proofs.lemmas.List.{length_push, get_or_push, get_or_append_left}
-use Rattle.std.proofs.lemmas.Bool.{cases_lt}
+use Rattle.std.specs.List.{All}
+use Rattle.std.proofs.lemmas.List.{length_push}
+use Rattle.std.proofs.lemmas.List.Elements.{All-nil, All-cons, All-append}
 use Rattle.forms.specs.Text.{digit_text, hex_text, NoText}
 
 pub length_hex : (k n : ℕ) → length (hex_text k n) ≡ k
@@ -11,25 +12,19 @@ length_hex zero n = refl
 length_hex (suc k) n =
     length_push (hex_text k (n / 16)) (digit_text (n % 16)) ∙ ap (λ m. m + 1) (length_hex k (n / 16)) ∙ add-one k
 
--- what stands at i is a digit
-hex_at : (k n i : ℕ) → i < k → (d : ℕ) × ((d < 16) × (get_or (hex_text k n) i 0 ≡ digit_text d))
-hex_at zero n i h = absurd (omega arith)
-hex_at (suc k) n i h =
-    let front = hex_text k (n / 16) in
-    let l : length front ≡ k = length_hex k (n / 16) in
-    elim (cases_lt i k) [
-      | inl lt ↦
-          let lt' : i < length front = omega (arith, l, lt) in
-          let r = hex_at k (n / 16) i lt in
-          (r.0, (r.1.0, get_or_append_left front (digit_text (n % 16) ∷ []) 0 i lt' ∙ r.1.1))
-      | inr ge ↦
-          let e : length front ≡ i = omega (arith, l, ge, h) in
-          (n % 16, (mod-lt n (omega arith), get_or_push front (digit_text (n % 16)) 0 i e))
-    ]
+abbrev IsDigit : ℕ → Type 0
+IsDigit b = (d : ℕ) × ((d < 16) × (b ≡ digit_text d))
+
+digits : (k n : ℕ) → All IsDigit (hex_text k n)
+digits zero n = All-nil IsDigit
+digits (suc k) n =
+    let last : IsDigit (digit_text (n % 16)) = (n % 16, (mod-lt n (omega arith), refl)) in
+    All-append IsDigit (hex_text k (n / 16)) (digit_text (n % 16) ∷ []) (digits k (n / 16)) (All-cons IsDigit (digit_text (n % 16)) [] last (All-nil IsDigit))
 
 -- a byte that is no digit stands in no number
 pub no_hex : (k : ℕ) (xs : List ℕ) (i : ℕ) → i < k → ((d : ℕ) → d < 16 → get_or xs i 0 ≡ digit_text d → ⊥) → NoText (hex_text k) xs
-no_hex k xs i h none n e = let r = hex_at k n i h in none r.0 r.1.0 (ap (λ ys. get_or ys i 0) e ∙ r.1.1)
+no_hex k xs i h none n e =
+    let r = digits k n i 0 (omega (arith, length_hex k n)) in none r.0 r.1.0 (ap (λ ys. get_or ys i 0) e ∙ r.1.1)
 
 -- one digit more
 pub hex_push : (k n d : ℕ) → d < 16 → hex_text k n ++ (digit_text d ∷ []) ≡ hex_text (k + 1) (n * 16 + d)

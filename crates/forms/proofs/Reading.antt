@@ -1,8 +1,10 @@
 -- What the readers answer is what the line is read as.
-use Rattle.std.proofs.Common.{◌≡◌, ℕ, zero, suc, ◌+◌, ◌*◌, ◌/◌, ◌%◌, ◌^◌, ◌<◌, ◌≤◌, Bool, true, false, cond, List, [], ◌∷◌, ◌++◌, length, take, Some, None, Option, sym, refl, ap, ◌∙◌, subst, mod-lt, pow-suc, arith, take_all}
+use Rattle.std.proofs.Common.{◌≡◌, ℕ, zero, suc, ◌+◌, ◌*◌, ◌/◌, ◌%◌, ◌^◌, ◌<◌, ◌≤◌, cond, List, [], ◌∷◌, ◌++◌, length, take, Some, None, Option, sym, refl, ap, ◌∙◌, subst, mod-lt, pow-suc, arith, take_all}
 use lib.Seq.{take-append-le}
 use Rattle.std.specs.Str.{bytes_eq}
 use Rattle.std.proofs.lemmas.Slice.Eq.{bytes_eq-Decides}
+use Rattle.std.proofs.lemmas.Option.{cond_some}
+use Rattle.std.proofs.lemmas.List.Sums.{fold_push}
 use Rattle.forms.specs.declared.words.KindName.{KindName}
 use Rattle.forms.specs.declared.words.KindName.TheVariants.{Binary64, Binary32, Count}
 use Rattle.forms.specs.declared.words.Side.TheVariants.{Left}
@@ -15,14 +17,10 @@ use Rattle.forms.proofs.Hexes.{length_hex}
 digit_back : (d : ℕ) → d < 16 → digit_value (digit_text d) ≡ d
 digit_back d h = grind arith
 
-value_push : (a : ℕ) (xs : List ℕ) (b : ℕ) → hex_value a (xs ++ (b ∷ [])) ≡ hex_value a xs * 16 + digit_value b
-value_push a [] b = refl
-value_push a (x ∷ xs) b = value_push (a * 16 + digit_value x) xs b
-
 -- what the last digit adds to the others
 value_step : (k n : ℕ) → hex_value 0 (hex_text (suc k) n) ≡ hex_value 0 (hex_text k (n / 16)) * 16 + n % 16
 value_step k n =
-    value_push 0 (hex_text k (n / 16)) (digit_text (n % 16))
+    fold_push (λ (v b : ℕ). v * 16 + digit_value b) 0 (hex_text k (n / 16)) (digit_text (n % 16))
     ∙ ap (λ d. hex_value 0 (hex_text k (n / 16)) * 16 + d) (digit_back (n % 16) (mod-lt n (omega arith)))
 
 value_less : (k n : ℕ) → hex_value 0 (hex_text k n) < 16 ^ k
@@ -70,27 +68,23 @@ visit_read k v f =
 
 visit_is : (k : ℕ) (xs : List ℕ) (v : Visit) → read_visit k xs ≡ Some v → (xs ≡ visit_text k v) × Fits k v
 unfolding read_visit
-visit_is k xs v = go (bytes_eq xs (visit_text k (candidate k xs))) refl
-  where
-    go : (t : Bool) → bytes_eq xs (visit_text k (candidate k xs)) ≡ t → cond t (Some (candidate k xs)) None ≡ Some v → (xs ≡ visit_text k v) × Fits k v
-    go true e s =
-        let w = candidate k xs in
-        let text : xs ≡ visit_text k w = (bytes_eq-Decides xs (visit_text k w)).0 e in
-        let is : w ≡ v = cc in
-        let fits : Fits k w = subst (λ ys. Fits k (candidate k ys)) (sym text) (candidate_fits k w) in
-        subst (λ (y : Visit). (xs ≡ visit_text k y) × Fits k y) is (text, fits)
-    go false e s = let z : ◌≡◌ {A = ℕ} 0 1 = cc in absurd (omega arith)
+visit_is k xs v s =
+    let w = candidate k xs in
+    let is = cond_some (bytes_eq xs (visit_text k w)) w v s in
+    let text : xs ≡ visit_text k w = (bytes_eq-Decides xs (visit_text k w)).0 is.0 in
+    let fits : Fits k w = subst (λ ys. Fits k (candidate k ys)) (sym text) (candidate_fits k w) in
+    subst (λ (y : Visit). (xs ≡ visit_text k y) × Fits k y) is.1 (text, fits)
 
 pub visits_exact : VisitsExact
 visits_exact = record { text = visit_is; read = visit_read }
 
+none_is : {A : Type 0} (o : Option A) → ((a : A) → o ≡ Some a → ⊥) → None ≡ o
+none_is None f = refl
+none_is (Some a) f = absurd (f a refl)
+
 -- what was read by the relation is what the line is read as
 pub visit_value : (k : ℕ) (xs : List ℕ) (r : Option Visit) → VisitMeans k xs r → r ≡ read_visit k xs
-visit_value k xs None none = go (read_visit k xs) refl
-  where
-    go : (r : Option Visit) → read_visit k xs ≡ r → None ≡ r
-    go None e = refl
-    go (Some v) e = absurd (none v (visit_is k xs v e).0)
+visit_value k xs None none = none_is (read_visit k xs) (λ v e. none v (visit_is k xs v e).0)
 visit_value k xs (Some v) m = sym (visit_read k v m.1) ∙ ap (read_visit k) (sym m.0)
 
 kind_read : (n : KindName) → read_kind (kind_text n) ≡ Some n
@@ -101,26 +95,13 @@ kind_read Count = refl
 
 kind_is : (xs : List ℕ) (n : KindName) → read_kind xs ≡ Some n → xs ≡ kind_text n
 unfolding read_kind
-kind_is xs n =
-    go (bytes_eq xs (kind_text Binary64)) refl (bytes_eq xs (kind_text Binary32)) refl (bytes_eq xs (kind_text Count)) refl
-  where
-    names : (m : KindName) → bytes_eq xs (kind_text m) ≡ true → m ≡ n → xs ≡ kind_text n
-    names m e i = (bytes_eq-Decides xs (kind_text m)).0 e ∙ ap kind_text i
-
-    go : (t : Bool) → bytes_eq xs (kind_text Binary64) ≡ t → (u : Bool) → bytes_eq xs (kind_text Binary32) ≡ u → (v : Bool) → bytes_eq xs (kind_text Count) ≡ v
-        → cond t (Some Binary64) (cond u (Some Binary32) (cond v (Some Count) None)) ≡ Some n → xs ≡ kind_text n
-    go true e u f v g s = names Binary64 e (cc)
-    go false e true f v g s = names Binary32 f (cc)
-    go false e false f true g s = names Count g (cc)
-    go false e false f false g s = let z : ◌≡◌ {A = ℕ} 0 1 = cc in absurd (omega arith)
+kind_is xs n s =
+    let is = λ (m : KindName). (bytes_eq-Decides xs (kind_text m)).0 in
+    grind (arith, is Binary64, is Binary32, is Count)
 
 pub kinds_exact : KindsExact
 kinds_exact = record { text = kind_is; read = kind_read }
 
 pub kind_value : (xs : List ℕ) (r : Option KindName) → KindMeans xs r → r ≡ read_kind xs
-kind_value xs None none = go (read_kind xs) refl
-  where
-    go : (r : Option KindName) → read_kind xs ≡ r → None ≡ r
-    go None e = refl
-    go (Some n) e = absurd (none n (kind_is xs n e))
+kind_value xs None none = none_is (read_kind xs) (λ n e. none n (kind_is xs n e))
 kind_value xs (Some n) m = sym (kind_read n) ∙ ap read_kind (sym m)

@@ -1,5 +1,5 @@
 -- What a line is read as, and the laws that this keeps.
-use Rattle.std.specs.Prelude.{◌≡◌, ℕ, ◌+◌, ◌-◌, ◌*◌, cond, List, [], ◌∷◌, take, drop, Some, None, Option, ◌==◌, nat_lt, slice_index}
+use Rattle.std.specs.Prelude.{◌≡◌, ℕ, ◌+◌, ◌-◌, ◌*◌, cond, List, take, drop, fold, Some, None, Option, ◌==◌, nat_lt, slice_index}
 use Rattle.std.specs.Str.{bytes_eq}
 use Rattle.forms.specs.declared.words.KindName.{KindName}
 use Rattle.forms.specs.declared.words.KindName.TheVariants.{Binary64, Binary32, Count}
@@ -14,8 +14,7 @@ digit_value b = cond (nat_lt b 65) (b - 48) (b - 55)
 
 -- what digits are worth behind others worth a
 abbrev pub hex_value : ℕ → List ℕ → ℕ
-hex_value a [] = a
-hex_value a (b ∷ bs) = hex_value (a * 16 + digit_value b) bs
+hex_value a bs = fold (λ n b. n * 16 + digit_value b) a bs
 
 -- the number whose k digits begin at i
 abbrev pub number_at : ℕ → ℕ → List ℕ → ℕ

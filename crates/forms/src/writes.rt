@@ -46,7 +46,7 @@ pub fn write_end(left: u32, right: u32, out: &mut Vec<u8>)
     write_text(b")\n", out);
 }
 
-// The last digits of n.
+// The last digits of n, by hand: the kit's `hex` writes whole bytes, in small letters.
 #[tactic(auto, using(crate::proofs::Hexes::length_hex))]
 fn hex(digits: usize, n: u64) -> ArrayVec<u8, 16>
     requires { digits ≤ 16 }

@@ -11,12 +11,13 @@ fn pump(rt: &HostRuntime, session: &mut Session) -> io::Result<()> {
     let mut output = rt.stdout();
     let mut out = Vec::new(rt.alloc());
     let mut buf = [0u8; 16384];
+    // Counted, since every loop is proved to end.
     for _ in 0..u64::MAX {
         let n = input.read(&mut buf)?;
         if n == 0 {
             break;
         }
-        session.feed(&buf[0..n], &mut out)?;
+        session.feed(&buf[..n], &mut out)?;
         output.write_all(out.as_slice())?;
         out.clear();
     }

@@ -1,32 +1,29 @@
 -- When the books of a session, and the session itself, are what a book says.
-use Rattle.std.specs.Prelude.{◌≡◌, ℕ, List, ◌++◌, length, Some, None, vec_items, Option}
+use Rattle.std.specs.Prelude.{◌≡◌, ℕ, List, ◌++◌, Some, None, vec_items, Option}
 use Rattle.accounts.specs.Meaning.{Meaning}
+use Rattle.accounts.specs.Entries as entries
 use Rattle.accounts.specs.Exact.{exact_meaning}
 use Rattle.forms.specs.declared.words.KindName.{KindName}
-use Rattle.forms.specs.declared.words.KindName.TheVariants.{Binary64, Binary32, Count}
-use Rattle.session.specs.Logbook.{Logbook, sum_of}
+use Rattle.session.specs.Logbook.{Logbook}
 use Rattle.session.specs.Book.{Book, untold, told}
 use Rattle.session.specs.Fed.{Plain, Fed}
 use Rattle.session.specs.declared.books.Books.{Books}
-use Rattle.session.specs.declared.books.Books.TheVariants.{Unopened, InBinary64, InBinary32, InCount}
 use Rattle.session.specs.declared.session.Session.{Session}
 
 -- an account with these accepted entries
 abbrev pub meant : Logbook → Meaning
-meant b = record { total = sum_of b.left; entries = length b.left; limit = b.left_limit }
+meant b = entries.meant b.left_limit b.left
 
 -- the kind that was told and what the left account means, where one was
-abbrev pub held : Books → Option (KindName × Meaning)
-held Unopened = None
-held (InBinary64 a) = Some (Binary64, exact_meaning a.left)
-held (InBinary32 a) = Some (Binary32, exact_meaning a.left)
-held (InCount a) = Some (Count, exact_meaning a.left)
+abbrev pub held : Option Books → Option (KindName × Meaning)
+held None = None
+held (Some a) = Some (a.kind, exact_meaning a.left)
 
 abbrev pub written : Book → Option (KindName × Meaning)
 written untold = None
 written (told n b) = Some (n, meant b)
 
-abbrev pub Agrees : Books → Book → Type 0
+abbrev pub Agrees : Option Books → Book → Type 0
 Agrees x b = held x ≡ written b
 
 -- the session has heard what the book says, and then this line so far
@@ -43,3 +40,7 @@ pub record Hears (x : Session) (b : Book) (line chunk before after : List ℕ) :
   pub fed : Fed b line chunk written book next
   pub wrote : after ≡ before ++ written
   pub stands : Stands x book next
+
+-- P holds of whatever the session has heard
+abbrev pub Standing : Session → (Book → List ℕ → Type 0) → Type 0
+Standing x P = (b : Book) (line : List ℕ) → Stands x b line → P b line

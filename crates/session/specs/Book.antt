@@ -1,5 +1,6 @@
 -- What a session has heard so far, and what a line is answered and leaves.
-use Rattle.std.specs.Prelude.{◌≡◌, ℕ, ◌^◌, ◌<◌, List, [], ◌∷◌, ◌++◌, length, Some, None, Option}
+use Rattle.std.specs.Prelude.{◌≡◌, ℕ, ◌^◌, ◌<◌, List, [], ◌∷◌, ◌++◌, length, Some, None, Ok, Err, Option, Result}
+use Rattle.refusals.specs.declared.Refusal.{Refusal}
 use Rattle.refusals.specs.declared.Refusal.TheVariants.{NotAForm}
 use Rattle.numbers.specs.Binary.{binary64, binary32, binary}
 use Rattle.numbers.specs.Coding.{Coding, opposite, adder, outcome}
@@ -10,8 +11,8 @@ use Rattle.forms.specs.Replies.{answer_text, end_text}
 use Rattle.forms.specs.declared.words.KindName.{KindName}
 use Rattle.forms.specs.declared.words.KindName.TheVariants.{Binary64, Binary32, Count}
 use Rattle.forms.specs.declared.words.Visit.{Visit}
-use Rattle.forms.specs.declared.words.Answer.{Answer}
-use Rattle.forms.specs.declared.words.Answer.TheVariants.{Done, Number, Refused}
+use Rattle.forms.specs.declared.words.Reply.{Reply}
+use Rattle.forms.specs.declared.words.Reply.TheVariants.{Done, Number}
 use Rattle.session.specs.Logbook.{Logbook, blank, answer_of, after}
 
 -- no kind was told yet, or a kind and what its logbook says
@@ -46,17 +47,17 @@ abbrev pub opened : Logbook
 opened = blank 4294967295
 
 -- a line that is no form in its turn is refused and changes nothing
-abbrev pub kind_answer : Option KindName → Answer
-kind_answer None = Refused NotAForm
-kind_answer (Some n) = Done
+abbrev pub kind_answer : Option KindName → Result Reply Refusal
+kind_answer None = Err NotAForm
+kind_answer (Some n) = Ok Done
 
 abbrev pub begun : Option KindName → Book
 begun None = untold
 begun (Some n) = told n opened
 
 module _ {K : Type 0} (k : Ghosts K) where
-  abbrev pub visit_answer : Option Visit → Logbook → Answer
-  visit_answer None b = Refused NotAForm
+  abbrev pub visit_answer : Option Visit → Logbook → Result Reply Refusal
+  visit_answer None b = Err NotAForm
   visit_answer (Some v) b = answer_of k v b
 
   abbrev pub visited : Option Visit → Logbook → Logbook
@@ -64,7 +65,7 @@ module _ {K : Type 0} (k : Ghosts K) where
   visited (Some v) b = after k v b
 
 -- what a line is answered, and what it leaves
-abbrev pub answer_to : Book → List ℕ → Answer
+abbrev pub answer_to : Book → List ℕ → Result Reply Refusal
 answer_to untold line = kind_answer (read_kind line)
 answer_to (told n b) line = visit_answer (kind_by n) (read_visit (digits_of n) line) b
 
@@ -78,7 +79,7 @@ reply b line = answer_text (digits b) (answer_to b line)
 -- at the end of the input: a line that has no end is refused, and then come both counts of entries
 abbrev pub unfinished : List ℕ → List ℕ
 unfinished [] = []
-unfinished (b ∷ bs) = answer_text 8 (Refused NotAForm)
+unfinished (b ∷ bs) = answer_text 8 (Err NotAForm)
 
 abbrev pub entries : Book → ℕ
 entries untold = 0
@@ -89,4 +90,4 @@ ending b line = unfinished line ++ end_text (entries b) 0
 
 -- a number that is answered has all its digits
 abbrev pub Shown : Type 0
-Shown = (b : Book) (line : List ℕ) (p : ℕ) → answer_to b line ≡ Number p → p < 16 ^ digits b
+Shown = (b : Book) (line : List ℕ) (p : ℕ) → answer_to b line ≡ Ok (Number p) → p < 16 ^ digits b

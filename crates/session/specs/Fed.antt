@@ -1,20 +1,18 @@
 -- What bytes that are fed come to: the lines that they end are answered one by one, and what is left is the line so far.
-use Rattle.std.specs.Prelude.{◌≡◌, ℕ, List, [], ◌∷◌, ◌++◌, ◌≢◌}
+use Rattle.std.specs.Prelude.{◌≡◌, ℕ, List, [], ◌∷◌, ◌++◌, ◌≢◌, fold}
+use Rattle.std.specs.List.{All, flat_map}
 use Rattle.session.specs.Book.{Book, reply, heard}
 
--- no byte ends a line
-abbrev pub Plain : List ℕ → Type 0
-Plain [] = Unit {0}
-Plain (x ∷ xs) = (x ≢ 10) × Plain xs
+-- the byte ends no line, and none of these does
+abbrev pub NoEnd : ℕ → Type 0
+NoEnd x = x ≢ 10
 
-abbrev pub AllPlain : List (List ℕ) → Type 0
-AllPlain [] = Unit {0}
-AllPlain (line ∷ lines) = Plain line × AllPlain lines
+abbrev pub Plain : List ℕ → Type 0
+Plain xs = All NoEnd xs
 
 -- the bytes of some lines, each with its end
 abbrev pub ended : List (List ℕ) → List ℕ
-ended [] = []
-ended (line ∷ lines) = line ++ (10 ∷ ended lines)
+ended lines = flat_map (λ line. line ++ 10 ∷ []) lines
 
 -- all their answers, and the book behind them
 abbrev pub replies : Book → List (List ℕ) → List ℕ
@@ -22,14 +20,13 @@ replies b [] = []
 replies b (line ∷ lines) = reply b line ++ replies (heard b line) lines
 
 abbrev pub heard_all : Book → List (List ℕ) → Book
-heard_all b [] = b
-heard_all b (line ∷ lines) = heard_all (heard b line) lines
+heard_all b lines = fold heard b lines
 
 -- a session with the book b and the line so far is fed a chunk: it writes the answers, and stands with the book c and a new line so far
 pub record Fed (b : Book) (line chunk written : List ℕ) (c : Book) (next : List ℕ) : Type 0 where
   pub lines : List (List ℕ)
   pub text : line ++ chunk ≡ ended lines ++ next
-  pub plain : AllPlain lines
+  pub plain : All Plain lines
   pub plain_next : Plain next
   pub answers : written ≡ replies b lines
   pub book : c ≡ heard_all b lines

@@ -1,140 +1,109 @@
 //! What a line is answered.
-ghost use Rattle.std.specs.Prelude.{◌≡◌, ◌≤◌};
-ghost use Rattle.session.specs.Agree.{Agrees, meant};
-ghost use Rattle.session.specs.Book.{Book, told, opened, digits, entries, visit_answer, visited, answer_to, heard};
-ghost use Rattle.session.specs.Logbook.{Logbook, blank, answer_of, after, done_or, number_or};
-ghost use Rattle.forms.specs.Read.{read_visit};
+ghost use Rattle.std.specs.Prelude.{◌≡◌, ◌≤◌, Some};
+ghost use Rattle.accounts.specs.Exact.{exact_meaning};
+ghost use Rattle.session.specs.Agree.{Agrees, Stands, Standing, meant};
+ghost use Rattle.session.specs.Book.{Book, told, opened, digits_of, digits, entries, answer_to, heard};
+ghost use Rattle.session.specs.Logbook.{Logbook, answer_of, after};
 
-use crate::bench::Bench;
 use crate::books::Books;
+use crate::session::Session;
 use accounts::account::Account;
+use accounts::register_account::RegisterAccount;
+use binary::format::{Binary32, Binary64};
 use forms::reads::{read_kind, read_visit};
-use forms::words::{Answer, KindName, Visit};
+use forms::words::{KindName, Reply, Visit};
+use kinds::count::Count;
 use kinds::kind::Kind;
 use refusals::Refusal;
-use std::marker::PhantomData;
 
-fn done_or(r: Result<(), Refusal>) -> Answer
-    ensures { result ≡ done_or r }
+// Visits an account whose numbers are of the kind.
+#[tactic(auto, using(accounts::proofs::Entries::meant_push))]
+fn visit<K: Kind>(left: &mut RegisterAccount, v: Visit) -> Result<Reply, Refusal>
+    ensures { (b : Logbook) → exact_meaning left.old ≡ meant b → (result ≡ answer_of K.Kind v b) × (exact_meaning left.new ≡ meant (after K.Kind v b)) }
 {
-    match r {
-        Ok(()) => Answer::Done,
-        Err(why) => Answer::Refused(why),
-    }
-}
-
-fn number_or(r: Result<u64, Refusal>) -> Answer
-    ensures { result ≡ number_or r }
-{
-    match r {
-        Ok(p) => Answer::Number(p),
-        Err(why) => Answer::Refused(why),
-    }
-}
-
-impl<K: Kind, L: Account<K>> Bench<K, L> {
-    fn open(left: L::Setup) -> Bench<K, L>
-        ensures sound { L.Account.sound result.left }
-        ensures fresh { L.Account.meaning result.left ≡ meant (blank (L.Account.agreed left)) }
-    {
-        Bench {
-            left: L::open(left),
-            kind: PhantomData,
-        }
-    }
-
-    fn visit(&mut self, v: Visit) -> Answer
-        requires { L.Account.sound self.old.left }
-        ensures sound { L.Account.sound self.new.left }
-        ensures follows { (b : Logbook) → L.Account.meaning self.old.left ≡ meant b → (result ≡ answer_of K.Kind v b) × (L.Account.meaning self.new.left ≡ meant (after K.Kind v b)) }
-    {
-        match v {
-            Visit::Post(_, p) => done_or(self.left.post(p)),
-            Visit::Withdraw(_, p) => done_or(self.left.withdraw(p)),
-            Visit::Read(_) => number_or(self.left.read()),
-        }
-    }
-
-    // Answers a whole line.
-    fn heard(mut self, digits: usize, line: &[u8]) -> (Bench<K, L>, Answer)
-        requires sound { L.Account.sound self.left }
-        requires few { digits ≤ 16 }
-        ensures sound { L.Account.sound result.0.left }
-        ensures follows { (b : Logbook) → L.Account.meaning self.left ≡ meant b → (result.1 ≡ visit_answer K.Kind (read_visit digits line.now) b) × (L.Account.meaning result.0.left ≡ meant (visited K.Kind (read_visit digits line.now) b)) }
-    {
-        match read_visit(digits, line) {
-            Some(v) => {
-                let answer = self.visit(v);
-                (self, answer)
-            }
-            None => (self, Answer::Refused(Refusal::NotAForm)),
-        }
-    }
-
-    fn entries(&self) -> u32
-        requires { L.Account.sound self.now.left }
-        ensures { result ≡ (L.Account.meaning self.now.left).entries }
-    {
-        self.left.entries()
+    match v {
+        Visit::Post(_, p) => Account::<K>::post(left, p).and(Ok(Reply::Done)),
+        Visit::Withdraw(_, p) => Account::<K>::withdraw(left, p).and(Ok(Reply::Done)),
+        Visit::Read(_) => Account::<K>::read(left).map(Reply::Number),
     }
 }
 
 impl Books {
-    // The books of a kind, with nothing in them.
-    pub(crate) fn open(name: KindName) -> Books
-        ensures { Agrees result (told name opened) }
+    // The books of a kind, with nothing in them. A fresh register account is the same for every kind.
+    fn open(kind: KindName) -> Books
+        ensures { Agrees (Some result) (told kind opened) }
     {
-        match name {
-            KindName::Binary64 => Books::InBinary64(Bench::open(())),
-            KindName::Binary32 => Books::InBinary32(Bench::open(())),
-            KindName::Count => Books::InCount(Bench::open(())),
+        Books {
+            kind,
+            left: <RegisterAccount as Account<Count>>::open(()),
         }
     }
 
     // Answers a whole line.
-    pub(crate) fn hear(self, line: &[u8]) -> (Books, Answer)
-        ensures { (b : Book) → Agrees self b → Agrees result.0 (heard b line.now) × (result.1 ≡ answer_to b line.now) }
+    fn hear(&mut self, line: &[u8]) -> Result<Reply, Refusal>
+        ensures { (b : Book) → Agrees (Some self.old) b → Agrees (Some self.new) (heard b line.now) × (result ≡ answer_to b line.now) }
     {
-        match self {
-            Books::Unopened => match read_kind(line) {
-                Some(name) => (Books::open(name), Answer::Done),
-                None => (Books::Unopened, Answer::Refused(Refusal::NotAForm)),
-            },
-            Books::InBinary64(bench) => {
-                let (bench, answer) = bench.heard(16, line);
-                (Books::InBinary64(bench), answer)
-            }
-            Books::InBinary32(bench) => {
-                let (bench, answer) = bench.heard(8, line);
-                (Books::InBinary32(bench), answer)
-            }
-            Books::InCount(bench) => {
-                let (bench, answer) = bench.heard(8, line);
-                (Books::InCount(bench), answer)
-            }
+        let v = read_visit(self.digits(), line).ok_or(Refusal::NotAForm)?;
+        match self.kind {
+            KindName::Binary64 => visit::<Binary64>(&mut self.left, v),
+            KindName::Binary32 => visit::<Binary32>(&mut self.left, v),
+            KindName::Count => visit::<Count>(&mut self.left, v),
         }
     }
 
     // The digits of a number.
+    fn digits(&self) -> usize
+        ensures few { result ≤ 16 }
+        ensures value { result ≡ digits_of self.now.kind }
+    {
+        match self.kind {
+            KindName::Binary64 => 16,
+            KindName::Binary32 | KindName::Count => 8,
+        }
+    }
+
+    // The left account's entries, counted alike for every kind.
+    fn entries(&self) -> u32
+        ensures { result ≡ (exact_meaning self.now.left).entries }
+    {
+        Account::<Count>::entries(&self.left)
+    }
+}
+
+impl Session {
+    // The digits of a number.
     pub(crate) fn digits(&self) -> usize
         ensures few { result ≤ 16 }
-        ensures value { (b : Book) → Agrees self.now b → result ≡ digits b }
+        ensures value { Standing self.now (λ b _. result ≡ digits b) }
     {
-        match self {
-            Books::InBinary64(_) => 16,
-            Books::Unopened | Books::InBinary32(_) | Books::InCount(_) => 8,
+        match &self.books {
+            Some(books) => books.digits(),
+            None => 8,
         }
     }
 
     // The left account's entries.
     pub(crate) fn entries(&self) -> u32
-        ensures { (b : Book) → Agrees self.now b → result ≡ entries b }
+        ensures { Standing self.now (λ b _. result ≡ entries b) }
     {
-        match self {
-            Books::Unopened => 0,
-            Books::InBinary64(bench) => bench.entries(),
-            Books::InBinary32(bench) => bench.entries(),
-            Books::InCount(bench) => bench.entries(),
+        match &self.books {
+            Some(books) => books.entries(),
+            None => 0,
+        }
+    }
+
+    // The answer to the line, which has ended.
+    pub(crate) fn answer(&mut self) -> Result<Reply, Refusal>
+        ensures answers { Standing self.old (λ b line. Stands self.new (heard b line) line × (result ≡ answer_to b line)) }
+        ensures line { self.new.line ≡ self.old.line }
+    {
+        match &mut self.books {
+            Some(books) => books.hear(self.line.as_slice()),
+            None => {
+                let kind = read_kind(self.line.as_slice()).ok_or(Refusal::NotAForm)?;
+                self.books = Some(Books::open(kind));
+                Ok(Reply::Done)
+            }
         }
     }
 }

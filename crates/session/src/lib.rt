@@ -2,7 +2,6 @@
 #![tactic(auto)]
 
 mod answers;
-mod bench;
 mod books;
 mod feeds;
 mod session;

@@ -101,9 +101,7 @@ mod tests {
     #[test]
     fn a_line_of_a_megabyte(rt: HostRuntime) -> Result<(), Fail> {
         let heap = rt.alloc();
-        let mut input = vec![in heap;
-            b'(', b'k', b'i', b'n', b'd', b' ', b'c', b'o', b'u', b'n', b't', b')', b'\n',
-        ]?;
+        let mut input = Vec::from_slice(heap, b"(kind count)\n")?;
         let long = vec![in heap; b'('; 1_000_000]?;
         input.extend_from_slice(long.as_slice())?;
         input.extend_from_slice(b"\n(read left)\n")?;

@@ -1,12 +1,6 @@
 use Rattle.std.proofs.Common.{vec_items, arith, take_all}
-use Rattle.session.proofs.Hearing.{hears_none, hears_more}
+use Rattle.session.proofs.Hearing.{hears_more}
 use Rattle.session.proofs.session.Session.hear_all.Goals as goal
-
-pub loop-b-init : goal.loop-b-init
-loop-b-init c = (λ b line s. hears_none b line (vec_items c.args.out.now) c.args.self.now s, omega (arith, c.requires.line), omega (arith, c.requires.room))
-
-pub byte-requires : goal.byte-requires
-byte-requires c = record { line = omega (arith, c.loop-b.invariant.1); room = omega (arith, c.loop-b.invariant.2) }
 
 pub loop-b-preserved : goal.loop-b-preserved
 loop-b-preserved c =
@@ -15,8 +9,8 @@ loop-b-preserved c =
           let h = c.loop-b.invariant.0 b line s in
           hears_more b line (vec_items c.args.out.now) c.loop-b.self c.byte.new.self (vec_items c.loop-b.out) (vec_items c.byte.new.out) c.args.chunk.now
           c.loop-b.b-index c.loop-b-test.true h (e.hears h.book h.next h.stands),
-      omega (arith, e.line_len, e.line_cap, c.loop-b.invariant.1),
-      omega (arith, e.out_len, e.out_cap, c.loop-b.invariant.2),
+      omega (arith, e.line, c.loop-b.invariant.1),
+      omega (arith, e.room, c.loop-b.invariant.2),
     )
 
 pub returns : goal.returns
