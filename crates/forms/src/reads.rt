@@ -1,5 +1,5 @@
 //! What a line asks for.
-ghost use Rattle.std.specs.Prelude.{◌≡◌, ◌≤◌, ◌++◌, MatchOption};
+ghost use Rattle.std.specs.Prelude.{◌≡◌, ℕ, ◌^◌, ◌<◌, ◌≤◌, List, ◌++◌, codes, MatchOption, ◌≢◌};
 ghost use Rattle.forms.specs.Text.{word_text, side_text, hex_text, number_text, NoFront, DigitMeans, NumberMeans, VisitMeans, KindMeans};
 ghost use Rattle.forms.specs.Read.{read_visit, read_kind, VisitsExact, KindsExact};
 
@@ -55,16 +55,15 @@ fn kind_of(line: &[u8]) -> Option<KindName>
     }
 }
 
-// The first word, and what follows it.
+// The first word, which its first byte tells apart, and what follows it.
 fn split_word(line: &[u8]) -> Option<(Word, &[u8])>
     ensures { MatchOption result (NoFront word_text line.now) (λ p. line.now ≡ word_text p.0 ++ p.1.now) }
 {
-    if let Some(rest) = line.strip_prefix(b"(post ") {
-        Some((Word::Post, rest))
-    } else if let Some(rest) = line.strip_prefix(b"(withdraw ") {
-        Some((Word::Withdraw, rest))
-    } else {
-        Some((Word::Read, line.strip_prefix(b"(read ")?))
+    match line {
+        [b'(', b'p', rest @ ..] => Some((Word::Post, rest.strip_prefix(b"ost ")?)),
+        [b'(', b'w', rest @ ..] => Some((Word::Withdraw, rest.strip_prefix(b"ithdraw ")?)),
+        [b'(', b'r', rest @ ..] => Some((Word::Read, rest.strip_prefix(b"ead ")?)),
+        _ => None,
     }
 }
 
