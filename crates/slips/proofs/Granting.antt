@@ -1,11 +1,11 @@
 -- A settle of slots by a plan for them is not refused.
-use Rattle.std.proofs.Common.{◌≡◌, ℕ, ◌+◌, ◌-◌, ◌*◌, T, List, length, subst, arith}
-use Rattle.std.specs.List.{All}
+use Rattle.std.proofs.Common.{◌≡◌, ℕ, ◌+◌, ◌-◌, ◌*◌, List, length, subst, arith}
 use Rattle.refusals.specs.declared.Refusal.{Refusal}
 use Rattle.refusals.specs.declared.Refusal.TheVariants.{NotANumber, Full, AboveRange, BelowRange, BladeLoaded, BladeEmpty, WrongCount, SlotNotANumber, ColumnTooShort, WrongPlanLength, NotAPlan, RegisterTooLarge, BudgetTooLarge, NotAForm}
 use Rattle.kinds.specs.declared.kind.Kind.{Ghosts}
 use Rattle.plans.specs.Plan.{dots, IsPlan, NoPlan}
 use Rattle.plans.proofs.Texts.{text_length}
+use Rattle.slots.specs.Pass.{Numbers}
 use Rattle.slots.specs.Asked.{Refused, wrong_count, no_number, short_column, no_plan}
 
 -- no plan is refused
@@ -27,7 +27,7 @@ plan_taken n s NotAForm i none = none
 
 -- slots that are numbers and a column for them are granted every settle by a plan of the right number of dots
 pub not_refused : {K : Type 0} (k : Ghosts K) (s : List ℕ) (c : ℕ) (p : List ℕ) (e : Refusal)
-    → length s ≡ 64 → c ≡ 64 → All (λ q. T (k.number q)) s → IsPlan 63 p → Refused k s c p e → ⊥
+    → length s ≡ 64 → c ≡ 64 → Numbers k s → IsPlan 63 p → Refused k s c p e → ⊥
 not_refused k s c p _ size room numbers plan (wrong_count other) = other (omega arith, omega arith)
 not_refused k s c p _ size room numbers plan (no_number i count first) = first.2 (numbers i 0 first.0)
 not_refused k s c p _ size room numbers plan (short_column count all short) = omega arith

@@ -1,6 +1,6 @@
 //! Where an entry goes.
-ghost use Rattle.std.specs.Prelude.{◌≡◌, ◌+◌, ◌<◌, ◌≤◌, T, length, ◌+ℤ◌, All};
-ghost use Rattle.slots.specs.Pass.{exact_sum, in_use};
+ghost use Rattle.std.specs.Prelude.{◌≡◌, ◌+◌, ◌<◌, ◌≤◌, T, length, ◌+ℤ◌};
+ghost use Rattle.slots.specs.Pass.{Numbers, exact_sum, in_use};
 ghost use Rattle.accounts.specs.Meaning.{with_entry};
 ghost use Rattle.slips.specs.Slips.{slips_meaning, Filled, Lodged};
 
@@ -11,13 +11,14 @@ use kinds::zero::is_zero;
 // Puts the number into the highest free slot. There is one, since fewer slots are in use than there are above slot 0.
 fn fill<K: Kind>(slots: &mut [u64], p: u64)
     requires number { T (K.Kind.number p) }
-    requires numbers { All (λ p. T (K.Kind.number p)) slots.old }
+    requires numbers { Numbers K.Kind slots.old }
     requires room { in_use K.Kind slots.old + 1 < length slots.old }
     ensures filled { Filled K.Kind slots.old p slots.new }
-    ensures numbers { All (λ p. T (K.Kind.number p)) slots.new }
+    ensures numbers { Numbers K.Kind slots.new }
     ensures few { in_use K.Kind slots.new ≤ in_use K.Kind slots.old + 1 }
     ensures sum { exact_sum K.Kind slots.new ≡ exact_sum K.Kind slots.old +ℤ K.Kind.worth p }
 {
+    // A rule of the project: a loop downward yields the slot by `break`.
     let mut at = slots.len() - 1;
     let slot = loop {
         if is_zero::<K>(slots[at]) {

@@ -1,6 +1,6 @@
-ghost use Rattle.std.specs.Prelude.{◌≤◌, T, All};
+ghost use Rattle.std.specs.Prelude.{◌≤◌};
 ghost use Rattle.std.proofs.Props.{props};
-ghost use Rattle.slots.specs.Pass.{in_use};
+ghost use Rattle.slots.specs.Pass.{Numbers, in_use};
 
 use kinds::kind::Kind;
 use std::marker::PhantomData;
@@ -12,7 +12,7 @@ pub struct Slips<K: Kind> {
     pub(crate) column: [u64; 64],
     pub(crate) count: u32,
     pub(crate) kind: PhantomData<K>,
-    ghost numbers: { All (λ p. T (K.Kind.number p)) slots } by { Prim.hlevel props },
+    ghost numbers: { Numbers K.Kind slots } by { Prim.hlevel props },
     ghost few: { in_use K.Kind slots ≤ count },
     ghost most: { count ≤ 63 },
 }

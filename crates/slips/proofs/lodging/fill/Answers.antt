@@ -1,5 +1,6 @@
-use Rattle.std.proofs.Common.{T, set, refl}
+use Rattle.std.proofs.Common.{set, refl}
 use Rattle.std.proofs.lemmas.List.Elements.{All-set}
+use Rattle.slots.proofs.Keeps.{Number}
 use Rattle.slips.proofs.Filling.{above_less, in_use_set, exact_sum_set}
 use Rattle.slips.proofs.lodging.fill.Goals as goal
 
@@ -21,7 +22,7 @@ returns g c =
             free = record { above = i.above; within = i.within; zero = zero; highest = i.highest };
             put = refl {a = set c.args.slots.now c.loop-at.at c.args.p};
           };
-      numbers = All-set (λ q. T (k.number q)) c.args.slots.now c.loop-at.at c.args.p c.requires.number c.requires.numbers;
+      numbers = All-set (Number k) c.args.slots.now c.loop-at.at c.args.p c.requires.number c.requires.numbers;
       few = in_use_set k _ _ _;
       sum = exact_sum_set k _ _ _ i.within zero;
     }
