@@ -46,6 +46,7 @@ impl Register {
     }
 
     /// Whether a bit below bit `at` is set.
+    #[tactic(auto, using(crate::proofs::Splits::none_below))]
     pub fn any_below(&self, at: u32) -> bool
         ensures { result ≡ nat_lt 0 (bits self.now % 2 ^ at) }
     {
@@ -55,6 +56,7 @@ impl Register {
     }
 
     /// The number of bits, with no sign.
+    #[tactic(auto, using(crate::proofs::Splits::no_bits))]
     pub fn bit_length(&self) -> u32
         ensures { LeastBits (bits self.now) result }
     {
