@@ -34,6 +34,7 @@ struct Near {
     units: u128,
 }
 
+#[tactic(auto, using(crate::proofs::Steps::steps))]
 fn nearest_to<B: Binary>(m: u128, shift: u32) -> Near
     requires { (m < 2 ^ 110) × (shift ≤ B.Binary.format.scales) }
     ensures code { result.code ≡ code B.Binary.format (nearest_ℕ B.Binary.format (m * 2 ^ shift)) }
@@ -42,31 +43,28 @@ fn nearest_to<B: Binary>(m: u128, shift: u32) -> Near
     if m == 0 {
         return Near { code: 0, units: 0 };
     }
-    let digits = B::FRACTION + 1;
+    let fraction = B::FRACTION;
     let lead = B::lead();
-    let size = 128 - m.leading_zeros();
-    if size <= digits {
-        let up = (digits - size).min(shift);
+    let highest = m.ilog2();
+    if highest <= fraction {
+        let up = (fraction - highest).min(shift);
         return Near {
             code: (shift - up) as u64 * lead + ((m as u64) << up),
             units: m,
         };
     }
-    let room = B::SCALES - shift;
-    let drop = size - digits;
-    if drop <= room {
-        let n = rounded(m, drop);
-        let code = (shift + drop) as u64 * lead + n;
-        if fits::<B>(code) {
-            return Near {
-                code,
-                units: (n as u128) << drop,
-            };
-        }
+    let drop = highest - fraction;
+    let n = rounded(m, drop);
+    let code = (shift + drop) as u64 * lead + n;
+    if fits::<B>(code) {
+        return Near {
+            code,
+            units: (n as u128) << drop,
+        };
     }
     Near {
         code: B::top(),
-        units: ((2 * lead - 1) as u128) << room,
+        units: ((2 * lead - 1) as u128) << (B::SCALES - shift),
     }
 }
 
