@@ -160,4 +160,4 @@ module _ (v : ℤ) (m b : ℕ) (is : m ≡ unsigned_abs v) (size : LeastBits m b
   reads u z h e i =
       let l = short h in ap Ok (e ∙ ap count_pattern i) ∙ sym (ap (λ o. answered (told_by count_pattern o)) (outcome_inside litres v l ∙ ap number (nearest_inside v l)))
 
-pub ruleset counting = (ints, clamps, number_out, scaled_is, added, window_is, reads_past, reads)
+pub ruleset counting = (ints, clamps, number_out, scaled_is, reads_past)

@@ -1,10 +1,7 @@
 //! The kind count: whole litres in 32 bits.
-ghost use Rattle.std.specs.Prelude.{◌≡◌, ◌^◌, ◌<◌, T, pos, int_lt, unsigned_abs};
+ghost use Rattle.std.specs.Prelude.{◌≡◌, ◌^◌, ◌<◌, unsigned_abs};
 ghost use Rattle.numbers.specs.Coding.{opposite, adder, outcome};
-ghost use Rattle.numbers.specs.Nearest.{nearest};
-ghost use Rattle.register.specs.Value.{value, meant};
-ghost use Rattle.kinds.specs.Answer.{answered};
-ghost use Rattle.kinds.specs.Count.{litres, counts};
+ghost use Rattle.kinds.specs.Count.{counts};
 ghost use Rattle.numbers.proofs.Laws;
 ghost use Rattle.kinds.specs.Counting.{codes};
 
@@ -17,7 +14,7 @@ use register::{Register, Scaled};
 pub struct Count;
 
 // The greatest worth.
-const TOP: i64 = 0x7FFF_FFFF;
+const TOP: i64 = i32::MAX as i64;
 
 // What a pattern of 32 bits says.
 #[tactic(auto, using(crate::specs::Counting::worth_is))]
