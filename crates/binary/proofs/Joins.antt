@@ -68,9 +68,9 @@ module _ (f : Format) (k : ℕ) (lay : Layout f k) where
         let z : code f (m * 2 ^ q) ≡ q * l + m = ap (λ (x : ℕ). code f (m * x)) (sym (unit_is f lay.binary q)) ∙ code_of f m q c.small c.within c.needs ∙ sym as_is in
         h ∙ ap (signed_code f n) (sym z) ∙ sym (pattern_signed f lay.binary n (m * 2 ^ q) (held w c))
 
-  module _ (x y : Number) (cx : Canonical f x.magnitude x.shift) (cy : Canonical f y.magnitude y.shift) where
+  module _ (x y : Number) (w : ℕ) (cx : Canonical f x.magnitude x.shift) (cy : Canonical f y.magnitude y.shift) (e_w : w ≡ k) where
     -- ---- far apart
-    absorbs : k + 2 < x.shift - y.shift → nearest f (meant x +ℤ meant y) ≡ meant x
+    absorbs : w + 2 < x.shift - y.shift → nearest f (meant x +ℤ meant y) ≡ meant x
     absorbs h =
         let q = x.shift - 1 in
         let i : x.shift ≡ suc q = omega arith in
@@ -85,7 +85,7 @@ module _ (f : Format) (k : ℕ) (lay : Layout f k) where
         let u : unit f q ≡ 2 ^ q = unit_is f lay.binary q in
         absorbed f (meant x) (meant y) x.magnitude q cx.small n (omega (arith, cx.within)) a (omega arith)
 
-    pub far_apart : (s r : ℕ) → k + 2 < x.shift - y.shift → s ≡ pattern f (meant x) → r ≡ pattern f (meant y) → Settled f (meant x +ℤ meant y) s r
+    pub far_apart : (s r : ℕ) → w + 2 < x.shift - y.shift → s ≡ pattern f (meant x) → r ≡ pattern f (meant y) → Settled f (meant x +ℤ meant y) s r
     far_apart s r h a b =
         let e = absorbs h in
         let d : (meant x +ℤ meant y) -ℤ nearest f (meant x +ℤ meant y) ≡ meant y =
@@ -93,7 +93,7 @@ module _ (f : Format) (k : ℕ) (lay : Layout f k) where
         record { sum = a ∙ ap (pattern f) (sym e); rest = b ∙ ap (pattern f) (sym (nearest_of_held f (meant y) (worth_held y cy)) ∙ ap (nearest f) (sym d)) }
 
     -- ---- near
-    module _ (order : y.shift ≤ x.shift) (near : x.shift - y.shift ≤ k + 2) where
+    module _ (order : y.shift ≤ x.shift) (near : x.shift - y.shift ≤ w + 2) where
       big_small : x.magnitude * 2 ^ (x.shift - y.shift) < 2 ^ 107
       big_small =
           let a = shl_below x.magnitude (suc k) (x.shift - y.shift) (lt_of_lt_of_le cx.small (le_of_eq (bound_two f k lay))) in
@@ -115,12 +115,16 @@ module _ (f : Format) (k : ℕ) (lay : Layout f k) where
           ∙ mul_assoc x.magnitude (2 ^ (x.shift - y.shift)) (2 ^ y.shift)
           ∙ ap (λ (z : ℕ). x.magnitude * z) (sym (pow-add 2 (x.shift - y.shift) y.shift) ∙ ap (λ (z : ℕ). 2 ^ z) (let e : x.shift - y.shift + y.shift ≡ x.shift = omega arith in e))
 
-      pub summed : (s : ℤ) → s ≡ signed_by x.negative ((x.magnitude * 2 ^ (x.shift - y.shift)) % 2 ^ 128) +ℤ signed_by y.negative y.magnitude → s *ℤ pos (2 ^ y.shift) ≡ meant x +ℤ meant y
-      summed s e =
+      in_units_of : (s : ℤ) → s ≡ signed_by x.negative ((x.magnitude * 2 ^ (x.shift - y.shift)) % 2 ^ 128) +ℤ signed_by y.negative y.magnitude → s *ℤ pos (2 ^ y.shift) ≡ meant x +ℤ meant y
+      in_units_of s e =
           let u = 2 ^ y.shift in
           let b = (x.magnitude * 2 ^ (x.shift - y.shift)) % 2 ^ 128 in
           ap (λ (z : ℤ). z *ℤ pos u) e
           ∙ sum_times (signed_by x.negative b) (signed_by y.negative y.magnitude) u
           ∙ ap₂ ◌+ℤ◌ (signed_times x.negative b u ∙ ap (signed_by x.negative) (lined b big_is)) (signed_times y.negative y.magnitude u)
+
+      pub summed : (s : ℤ) (a b : ℕ) → Settled f (s *ℤ pos (2 ^ y.shift)) a b → s ≡ signed_by x.negative ((x.magnitude * 2 ^ (x.shift - y.shift)) % 2 ^ 128) +ℤ signed_by y.negative y.magnitude
+          → Settled f (meant x +ℤ meant y) a b
+      summed s a b h e = subst (λ (v : ℤ). Settled f v a b) (in_units_of s e) h
 
 pub ruleset writes = (written_below, written_fits, written_is)
