@@ -17,6 +17,7 @@ pub enum Entry {
 }
 
 // Asks for one entry; a refused one leaves the account as it is.
+#[tactic(auto, using(crate::proofs::Entries::entered_means))]
 fn enter<K: Kind, A: Account<K>>(account: &mut A, entry: Entry)
     ensures { (most : ℕ) (ws : List ℤ) → A.Account.meaning account.old ≡ meant most ws → A.Account.meaning account.new ≡ meant most (entered_by K.Kind most ws entry) }
 {
