@@ -35,6 +35,7 @@ fn left_to_right<J: Join>(items: &[J]) -> J
     all
 }
 
+// Thin, so that an edit of the call is refused for its meaning and not in a proof file.
 /// All items joined, from the left to the right; every bracketing of every order of them comes to the same.
 pub fn fold<J: Join>(items: &[J]) -> J
     ensures value { result ≡ fold J.joined J.neutral items.now }

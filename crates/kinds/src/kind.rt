@@ -9,6 +9,7 @@ use register::{Register, Scaled};
 
 /// A kind of number: it says which bit patterns are numbers, and gives each a worth, a whole number of the kind's unit.
 /// Code above a kind uses these calls and laws, and nothing else of it.
+// A number stays a plain word: slots, columns and lines hold patterns, and a type of its own would be put on and taken off at each of them.
 pub trait Kind {
     ghost number: { ℕ → Bool };
 

@@ -9,7 +9,7 @@ use kinds::kind::Kind;
 use refusals::Refusal;
 
 impl<K: Kind, A: Account<K>> Staged<K, A> {
-    // Posts the kept entries below, in the order in which they came.
+    // Posts the kept entries below, in the order in which they came. By a rule of the project a refusal below comes up by `?`, and each of these functions tells that none does.
     fn hand_down(&mut self) -> Result<(), Refusal>
         ensures answer { result ≡ Ok tt }
         ensures after { staged_meaning K.Kind A.Account self.new ≡ staged_meaning K.Kind A.Account self.old }

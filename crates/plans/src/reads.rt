@@ -45,7 +45,7 @@ fn whole_plan(text: &[u8], dots: usize) -> Result<(), usize>
     Ok(())
 }
 
-// Reads one part, behind which so many more parts are owed.
+// Reads one part, behind which so many more parts are owed. The error is no code but the place where the text stops being a plan.
 fn part(text: &[u8], from: Stand, owed: usize) -> Result<Stand, usize>
     requires { (from.at ≤ length text.now) × ((owed < from.left) × (from.left ≤ 4095)) }
     ensures { PartAnswer text.now from.at from.left owed result }

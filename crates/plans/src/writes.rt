@@ -5,6 +5,7 @@ ghost use Rattle.plans.specs.Halving.{halving, HalvingRule};
 
 use crate::reads::plan_bytes;
 
+// Thin, so that an edit of the call is refused for its meaning and not in a proof file.
 /// Fills a text with the halving plan of so many dots.
 pub fn write_halving(text: &mut [u8], dots: usize)
     requires { (1 ≤ dots) × ((dots ≤ 4095) × (length text.old + 2 ≡ 3 * dots)) }

@@ -38,6 +38,7 @@ pub enum Refusal {
 }
 
 impl Refusal {
+    // The number and the place are told for the lines and the exported calls; in the code a refusal is its case.
     /// The number of the question that was answered no.
     pub fn number(&self) -> u8
         ensures { result ≡ (told self.now).number }

@@ -14,6 +14,7 @@ use refusals::Refusal;
 use slots::asked::asked;
 use slots::moves::{clear, pass_by};
 
+// Thin, so that an edit of the call is refused for its meaning and not in a proof file.
 /// The outcome of all slots: the test, then a pass and the test in turn until it accepts or the budget is used, else the register.
 /// Whatever the test accepts, on any slots, is the outcome of their exact sum.
 pub fn settle<K: Kind>(

@@ -57,6 +57,7 @@ impl<K: Kind> Account<K> for Slips<K> {
     }
 
     fn read(&mut self) -> Result<u64, Refusal> {
+        // No heap: the plan stands in fixed memory, as long as its text.
         let mut plan = [b'.'; PLAN_BYTES];
         write_halving(&mut plan, DOTS);
         self.settled(&plan, &Settings::new())

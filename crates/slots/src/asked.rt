@@ -16,6 +16,7 @@ fn all_numbers<K: Kind>(slots: &[u64]) -> Result<(), Refusal>
     Ok(())
 }
 
+// Thin, so that an edit of the call is refused for its meaning and not in a proof file.
 /// Asks everything before anything moves: of the slots, of a column of so many words and of the plan.
 pub fn asked<K: Kind>(slots: &[u64], column: usize, plan: &[u8]) -> Result<(), Refusal>
     ensures { AskedAnswer K.Kind slots.now column plan.now result }

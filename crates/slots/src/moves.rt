@@ -37,6 +37,7 @@ fn add_lead<K: Kind>(slots: &mut [u64], value: u64)
 }
 
 /// A pass that is granted. The values of the parts that wait for their closing bracket stand in the column.
+// The three borrows stay apart: of a struct that holds them a clause names what is left by its position, `bench.exit.0.now` for `slots.new`.
 pub fn pass_by<K: Kind>(slots: &mut [u64], column: &mut [u64], plan: &[u8])
     requires count { (2 ≤ length slots.old) × (length slots.old ≤ 4096) }
     requires numbers { Numbers K.Kind slots.old }

@@ -8,7 +8,7 @@ use kinds::kind::Kind;
 use refusals::Refusal;
 use settle::budget::Settings;
 use settle::settle::settle;
-use settle::settled::Teller;
+use settle::settled::{Settled, Teller};
 use slips::slips::Slips;
 use slots::pass::pass;
 
@@ -23,9 +23,12 @@ fn read<K: Kind>(entries: &[Entry], want: Result<u64, Refusal>) -> bool {
 fn settled() -> bool {
     let mut slots = [0, 0x4340_0000_0000_0000, 0x3FF0_0000_0000_0000, 1];
     let mut column = [7; 4];
-    settle::<Binary64>(&mut slots, &mut column, b"((..).)", &Settings::new()).is_ok_and(|s| {
-        s.outcome == Ok(0x4340_0000_0000_0001) && s.passes == 8 && s.by == Teller::Register
-    })
+    let want = Settled {
+        outcome: Ok(0x4340_0000_0000_0001),
+        passes: 8,
+        by: Teller::Register,
+    };
+    settle::<Binary64>(&mut slots, &mut column, b"((..).)", &Settings::new()) == Ok(want)
 }
 
 fn no_plan() -> bool {
