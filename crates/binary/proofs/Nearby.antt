@@ -1,5 +1,5 @@
 -- The number nearest to m units of 2 ^ shift: its pattern and its magnitude, by m's digits.
-use Rattle.std.proofs.Common.{◌≡◌, ℕ, suc, ◌+◌, ◌-◌, ◌*◌, ◌/◌, ◌%◌, ◌^◌, ◌<◌, ◌≤◌, min, ◌⊎◌, sym, ap, ◌∙◌, subst, ap₂, inl, inr, le_trans, le_of_eq, mul-le-mul_right, mul_assoc, suc-mul, mul_comm, div-lt_iff_lt-mul, mul-le-mul_left, pow-suc, zero-mul, le_of_mul-le-mul_right, arith, pow_pos, pow-add}
+use Rattle.std.proofs.Common.{◌≡◌, ℕ, suc, ◌+◌, ◌-◌, ◌*◌, ◌/◌, ◌%◌, ◌^◌, ◌<◌, ◌≤◌, min, ◌⊎◌, sym, ap, ◌∙◌, subst, ap₂, inl, inr, le_trans, le_of_eq, lt_of_lt_of_le, pow_mono, mul-le-mul_right, mul_assoc, suc-mul, mul_comm, div-lt_iff_lt-mul, mul-le-mul_left, pow-suc, zero-mul, le_of_mul-le-mul_right, arith, pow_pos, pow-add}
 use native.Mathlib.Nat.{min-eq_left, min-eq_right}
 use native.Mathlib.Decide.{dec_le}
 use lib.Ieee.Nearest.{closest, closest_same}
@@ -26,6 +26,9 @@ module _ (f : Format) (k : ℕ) (lay : Layout f k) where
   pub bound_twice : bound f ≡ 2 * f.lead
   bound_twice = bound_is f lay.binary ∙ omega arith
 
+  pub bound_small : bound f ≤ 2 ^ 53
+  bound_small = let h : suc k ≤ 53 = omega (arith, lay.narrow) in le_trans (le_of_eq bound_two) (pow_mono h)
+
   pub lead_even : f.lead % 2 ≡ 0
   lead_even = ap (λ (x : ℕ). x % 2) (lay.power ∙ ap (λ (x : ℕ). 2 ^ x) (let e : k ≡ suc (k - 1) = omega (arith, lay.some) in e) ∙ pow-suc 2 (k - 1)) ∙ omega arith
 
@@ -50,6 +53,16 @@ module _ (f : Format) (k : ℕ) (lay : Layout f k) where
       (sym (ap (code f) e ∙ code_zero f), z ∙ sym e)
 
   -- ---- e digits too many
+  pub high : (m e t : ℕ) → k + e ≡ t → 2 ^ t ≤ m → m < 2 ^ suc t → (f.lead * 2 ^ e ≤ m) × (m < bound f * 2 ^ e)
+  high m e t i r u =
+      let j : suc k + e ≡ suc t = omega arith in (
+        le_trans (le_of_eq (ap (λ (x : ℕ). x * 2 ^ e) lay.power ∙ sym (pow-add 2 k e) ∙ ap (λ (x : ℕ). 2 ^ x) i)) r,
+        lt_of_lt_of_le u (le_of_eq (sym (ap (λ (x : ℕ). x * 2 ^ e) bound_two ∙ sym (pow-add 2 (suc k) e) ∙ ap (λ (x : ℕ). 2 ^ x) j))),
+      )
+
+  pub part_small : (m e : ℕ) → m < bound f * 2 ^ e → m / 2 ^ e < 2 ^ 63
+  part_small m e h = let d : m / 2 ^ e < bound f = (div-lt_iff_lt-mul (pow_pos e)).1 h in omega (arith, bound_small)
+
   pub few : (m e : ℕ) → m < bound f * 2 ^ e → closest m (2 ^ e) ≤ bound f
   few m e b =
       let d : m / 2 ^ e < bound f = (div-lt_iff_lt-mul (pow_pos e)).1 b in

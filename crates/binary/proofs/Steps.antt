@@ -1,5 +1,5 @@
 -- The steps of `nearest_to`, over the values that its code holds: L for the format's lead, w for the bits of a fraction, S for the greatest scale, e for the place of the highest bit of m.
-use Rattle.std.proofs.Common.{◌≡◌, ℕ, suc, ◌+◌, ◌-◌, ◌*◌, ◌/◌, ◌%◌, ◌^◌, ◌<◌, ◌≤◌, min, ◌⊎◌, sym, ap, ◌∙◌, ap₂, inl, inr, le_trans, le_of_eq, lt_of_lt_of_le, mul-le-mul_right, mod-eq_of_lt, div-lt_iff_lt-mul, arith, pow_pos, pow_mono, pow-add, pow-suc, le-div_iff_mul-le, mul-le-mul, suc-mul, true, false, leb}
+use Rattle.std.proofs.Common.{◌≡◌, ℕ, suc, ◌+◌, ◌-◌, ◌*◌, ◌/◌, ◌%◌, ◌^◌, ◌<◌, ◌≤◌, min, ◌⊎◌, sym, ap, ◌∙◌, ap₂, inl, inr, le_trans, le_of_eq, lt_of_lt_of_le, mul-le-mul_right, mod-eq_of_lt, arith, pow_pos, pow_mono, pow-add, pow-suc, le-div_iff_mul-le, mul-le-mul, suc-mul, true, false, leb}
 use borrow.Author.Tests.{true-leb, false-leb}
 use native.Mathlib.Decide.{dec_le}
 use lib.Ieee.Nearest.{closest}
@@ -10,7 +10,7 @@ use Rattle.numbers.specs.Binary.{code}
 use Rattle.numbers.proofs.Binary.{lead_pos}
 use Rattle.numbers.proofs.Rounded.{closest_is}
 use Rattle.binary.specs.Layout.{Layout, top_code}
-use Rattle.binary.proofs.Nearby.{none, bound_two, bound_twice, exact, rounded, clamped, over, few, at_most_double, scale_fits}
+use Rattle.binary.proofs.Nearby.{none, high, part_small, bound_small, bound_two, bound_twice, exact, rounded, clamped, over, few, at_most_double, scale_fits}
 
 module _ (f : Format) (k : ℕ) (lay : Layout f k) (m shift : ℕ) (z : m ≡ 0) where
   pub none_code : 0 ≡ code f (nearest_ℕ f (m * 2 ^ shift))
@@ -24,9 +24,6 @@ abbrev Top : Format → ℕ → ℕ → Type 0
 Top f m shift = (code f (nearest_ℕ f (m * 2 ^ shift)) ≡ top_code f) × (nearest_ℕ f (m * 2 ^ shift) ≡ (bound f - 1) * 2 ^ (f.scales - shift) * 2 ^ shift)
 
 module _ (f : Format) (k : ℕ) (lay : Layout f k) (m shift L w e : ℕ) (e_l : L ≡ f.lead) (e_w : w ≡ k) (l : shift ≤ f.scales) (reach : 2 ^ e ≤ m) (under : m < 2 * 2 ^ e) where
-  bound_small : bound f ≤ 2 ^ 53
-  bound_small = let h : suc k ≤ 53 = omega (arith, lay.narrow) in le_trans (le_of_eq (bound_two f k lay)) (pow_mono h)
-
   times : (q : ℕ) → q * L ≡ q * f.lead
   times q = ap (λ (x : ℕ). q * x) e_l
 
@@ -48,7 +45,7 @@ module _ (f : Format) (k : ℕ) (lay : Layout f k) (m shift L w e : ℕ) (e_l : 
         )
 
     low_word : (m * 2 ^ up) % 2 ^ 64 ≡ m * 2 ^ up
-    low_word = mod-eq_of_lt (let b : m * 2 ^ up < 2 ^ 64 = omega (arith, low.0, bound_small) in b)
+    low_word = mod-eq_of_lt (let b : m * 2 ^ up < 2 ^ 64 = omega (arith, low.0, bound_small f k lay) in b)
 
     pub low_cast : m < 2 ^ 64
     low_cast = let i : suc e ≤ 53 = omega (arith, lay.narrow) in omega (arith, below, pow_mono i)
@@ -68,13 +65,8 @@ module _ (f : Format) (k : ℕ) (lay : Layout f k) (m shift L w e : ℕ) (e_l : 
 
   -- ---- more digits
   module _ (more : w < e) (small : m < 2 ^ 110) where
-    high : (f.lead * 2 ^ (e - w) ≤ m) × (m < bound f * 2 ^ (e - w))
-    high =
-        let a : k + (e - w) ≡ e = omega arith in
-        let b : suc k + (e - w) ≡ suc e = omega arith in (
-          le_trans (le_of_eq (ap (λ (x : ℕ). x * 2 ^ (e - w)) lay.power ∙ sym (pow-add 2 k (e - w)) ∙ ap (λ (x : ℕ). 2 ^ x) a)) reach,
-          lt_of_lt_of_le below (le_of_eq (sym (ap (λ (x : ℕ). x * 2 ^ (e - w)) (bound_two f k lay) ∙ sym (pow-add 2 (suc k) (e - w)) ∙ ap (λ (x : ℕ). 2 ^ x) b))),
-        )
+    large : (f.lead * 2 ^ (e - w) ≤ m) × (m < bound f * 2 ^ (e - w))
+    large = high f k lay m (e - w) e (omega arith) reach below
 
     short : e < 110
     short =
@@ -83,27 +75,26 @@ module _ (f : Format) (k : ℕ) (lay : Layout f k) (m shift L w e : ℕ) (e_l : 
           | no h ↦ omega arith
         ]
 
-    quotient : (f.lead ≤ m / 2 ^ (e - w)) × (m / 2 ^ (e - w) < bound f)
-    quotient = ((le-div_iff_mul-le (pow_pos (e - w))).1 high.0, (div-lt_iff_lt-mul (pow_pos (e - w))).1 high.1)
-
     pub drop_small : e - w < 126
     drop_small = omega (arith, short)
 
     pub quotient_small : m / 2 ^ (e - w) < 2 ^ 63
-    quotient_small = omega (arith, quotient.1, bound_small)
+    quotient_small = part_small f k lay m (e - w) large.1
 
     module _ (n : ℕ) (e_n : n ≡ closest m (2 ^ (e - w))) where
       n_low : f.lead ≤ n
-      n_low = elim (closest_is m (2 ^ (e - w))) [ inl i ↦ omega (arith, quotient.0) | inr i ↦ omega (arith, quotient.0) ]
+      n_low =
+          let q : f.lead ≤ m / 2 ^ (e - w) = (le-div_iff_mul-le (pow_pos (e - w))).1 large.0 in
+          elim (closest_is m (2 ^ (e - w))) [ inl i ↦ omega arith | inr i ↦ omega arith ]
 
       n_high : n ≤ bound f
-      n_high = let a : closest m (2 ^ (e - w)) ≤ bound f = few f k lay m (e - w) high.1 in omega arith
+      n_high = let a : closest m (2 ^ (e - w)) ≤ bound f = few f k lay m (e - w) large.1 in omega arith
 
       pub high_fits : (shift + (e - w)) * L + n < 2 ^ 64
       high_fits =
           let a : shift + (e - w) ≤ 2155 = omega (arith, short, lay.short) in
-          let b : f.lead ≤ 2 ^ 52 = omega (arith, bound_small, bound_twice f k lay) in
-          omega (arith, times (shift + (e - w)), mul-le-mul a b, n_high, bound_small)
+          let b : f.lead ≤ 2 ^ 52 = omega (arith, bound_small f k lay, bound_twice f k lay) in
+          omega (arith, times (shift + (e - w)), mul-le-mul a b, n_high, bound_small f k lay)
 
       is_code : (shift + (e - w)) * L + n ≡ (shift + (e - w)) * f.lead + closest m (2 ^ (e - w))
       is_code = ap₂ ◌+◌ (times (shift + (e - w))) e_n
@@ -123,7 +114,7 @@ module _ (f : Format) (k : ℕ) (lay : Layout f k) (m shift L w e : ℕ) (e_l : 
 
         is_rounded : (code f (nearest_ℕ f (m * 2 ^ shift)) ≡ (shift + (e - w)) * f.lead + closest m (2 ^ (e - w)))
             × (nearest_ℕ f (m * 2 ^ shift) ≡ closest m (2 ^ (e - w)) * 2 ^ (e - w) * 2 ^ shift)
-        is_rounded = rounded f k lay m shift (e - w) in_scale high.0 high.1 (omega (arith, within, is_code))
+        is_rounded = rounded f k lay m shift (e - w) in_scale large.0 large.1 (omega (arith, within, is_code))
 
         pub high_code : (shift + (e - w)) * L + n ≡ code f (nearest_ℕ f (m * 2 ^ shift))
         high_code = is_code ∙ sym is_rounded.0
@@ -140,8 +131,8 @@ module _ (f : Format) (k : ℕ) (lay : Layout f k) (m shift L w e : ℕ) (e_l : 
         is_top =
             let a : top_code f < (shift + (e - w)) * f.lead + closest m (2 ^ (e - w)) = omega (arith, is_code, false-leb _ _ out) in
             elim (dec_le (shift + (e - w)) f.scales) [
-              | yes h ↦ clamped f k lay m shift (e - w) h high.0 high.1 a
-              | no h ↦ over f k lay m shift (e - w) l (omega arith) high.0
+              | yes h ↦ clamped f k lay m shift (e - w) h large.0 large.1 a
+              | no h ↦ over f k lay m shift (e - w) l (omega arith) large.0
             ]
 
         room : (bound f - 1) * 2 ^ (f.scales - shift) ≤ 2 * m

@@ -1,5 +1,5 @@
 -- The steps of a reading, over the values that its code holds.
-use Rattle.std.proofs.Common.{◌≡◌, ℕ, suc, ◌+◌, ◌-◌, ◌*◌, ◌/◌, ◌%◌, ◌^◌, ◌<◌, ◌≤◌, Bool, true, false, cond, ltb, leb, ℤ, pos, nat_abs, Some, None, Ok, Err, Option, sym, refl, ap, ◌∙◌, subst, ap₂, inl, le_trans, le_of_eq, lt_of_lt_of_le, lt_of_le_of_lt, mod-eq_of_lt, div-lt_iff_lt-mul, zero-add, mul-one, div-one, arith, pow_pos, pow_mono, pow-add, ltb-false, ltb-true, le-ltb, lt-ltb, leb-false, leb-true}
+use Rattle.std.proofs.Common.{◌≡◌, ℕ, suc, ◌+◌, ◌-◌, ◌*◌, ◌/◌, ◌%◌, ◌^◌, ◌<◌, ◌≤◌, Bool, true, false, cond, ltb, leb, ℤ, pos, nat_abs, Some, None, Ok, Err, Option, sym, refl, ap, ◌∙◌, subst, ap₂, inl, le_trans, le_of_eq, lt_of_lt_of_le, lt_of_le_of_lt, mod-eq_of_lt, zero-add, mul-one, div-one, arith, pow_pos, pow_mono, ltb-false, ltb-true, le-ltb, lt-ltb, leb-false, leb-true}
 use native.Mathlib.Decide.{dec_le}
 use borrow.Author.Differences.{ints}
 use Rattle.std.specs.Bool.{then_some}
@@ -15,7 +15,7 @@ use Rattle.numbers.proofs.Binary.{lead_pos}
 use Rattle.register.specs.Limbs.{Rounded, LeastBits}
 use Rattle.register.specs.Wrap.{signed_by}
 use Rattle.binary.specs.Layout.{Layout, top_code, signed_code, nearest_of}
-use Rattle.binary.proofs.Nearby.{bound_two, bound_twice, exact, rounded, few, scale_fits, code_small}
+use Rattle.binary.proofs.Nearby.{high, part_small, bound_small, bound_two, bound_twice, exact, rounded, few, scale_fits, code_small}
 use Rattle.binary.proofs.Signs.{sign_is}
 use Rattle.binary.proofs.Joins.{sum_is}
 use Rattle.kinds.proofs.Edges.{closest_of, out_long, in_short, in_edge, out_edge}
@@ -40,9 +40,6 @@ reaches m s b p =
 
 -- ---- the steps, over the values that the code holds: w for the fraction's bits, L for the lead, S for the greatest scale, s for the bits of m
 module _ (f : Format) (k : ℕ) (lay : Layout f k) (m s w : ℕ) (size : LeastBits m s) (e_w : w ≡ k) where
-  bound_small : bound f ≤ 2 ^ 53
-  bound_small = let h : suc k ≤ 53 = omega (arith, lay.narrow) in le_trans (le_of_eq (bound_two f k lay)) (pow_mono h)
-
   -- ---- few digits
   pub whole : (c : ℕ) → s ≤ w + 1 → c ≡ m / 2 ^ 0 % 2 ^ 64 → Some c ≡ code_in_range f m
   whole c l e =
@@ -50,27 +47,23 @@ module _ (f : Format) (k : ℕ) (lay : Layout f k) (m s w : ℕ) (size : LeastBi
       let b : m < bound f = lt_of_lt_of_le size.enough (le_trans (pow_mono n) (le_of_eq (sym (bound_two f k lay)))) in
       let o : m * 2 ^ 0 ≡ m = mul-one m in
       let x = exact f k lay m 0 0 (omega arith) (omega arith) (subst (λ (y : ℕ). y < bound f) (sym o) b) (inl refl) in
-      let r : m % 2 ^ 64 ≡ m = mod-eq_of_lt (let h : m < 2 ^ 64 = omega (arith, bound_small) in h) in
+      let r : m % 2 ^ 64 ≡ m = mod-eq_of_lt (let h : m < 2 ^ 64 = omega (arith, bound_small f k lay) in h) in
       inside f m c (in_short f k lay m b)
       (ap (λ (y : ℕ). code f (nearest_ℕ f y)) (sym o) ∙ x.0 ∙ omega (arith, o) ∙ sym (e ∙ ap (λ (y : ℕ). y % 2 ^ 64) (div-one m) ∙ r))
 
   -- ---- more digits
   module _ (more : w + 1 < s) where
-    high : (f.lead * 2 ^ (s - (w + 1)) ≤ m) × (m < bound f * 2 ^ (s - (w + 1)))
-    high =
-        let d = s - (w + 1) in
-        let a : k + d ≡ s - 1 = omega arith in
-        let b : suc k + d ≡ s = omega arith in (
-          le_trans (le_of_eq (ap (λ (x : ℕ). x * 2 ^ d) lay.power ∙ sym (pow-add 2 k d) ∙ ap (λ (x : ℕ). 2 ^ x) a)) (reaches m s size (omega arith)),
-          lt_of_lt_of_le size.enough (le_of_eq (sym (ap (λ (x : ℕ). x * 2 ^ d) (bound_two f k lay) ∙ sym (pow-add 2 (suc k) d) ∙ ap (λ (x : ℕ). 2 ^ x) b))),
-        )
+    large : (f.lead * 2 ^ (s - (w + 1)) ≤ m) × (m < bound f * 2 ^ (s - (w + 1)))
+    large =
+        let i : s ≡ suc (s - 1) = omega arith in
+        high f k lay m (s - (w + 1)) (s - 1) (omega arith) (reaches m s size (omega arith)) (subst (λ (x : ℕ). m < 2 ^ x) i size.enough)
 
     pub part : m / 2 ^ (s - (w + 1)) < 2 ^ 63
-    part = let d : m / 2 ^ (s - (w + 1)) < bound f = (div-lt_iff_lt-mul (pow_pos (s - (w + 1)))).1 high.1 in omega (arith, bound_small)
+    part = part_small f k lay m (s - (w + 1)) large.1
 
     module _ (S : ℕ) (e_s : S ≡ f.scales) where
       pub long : S < s - (w + 1) → None ≡ code_in_range f m
-      long l = outside f m (out_long f k lay m (s - (w + 1)) (omega arith) high.0)
+      long l = outside f m (out_long f k lay m (s - (w + 1)) (omega arith) large.0)
 
       module _ (L n : ℕ) (e_l : L ≡ f.lead) (fits : s - (w + 1) ≤ S) (r : Rounded m (2 ^ (s - (w + 1))) n) where
         near : n ≡ closest m (2 ^ (s - (w + 1)))
@@ -81,7 +74,7 @@ module _ (f : Format) (k : ℕ) (lay : Layout f k) (m s w : ℕ) (size : LeastBi
 
         pub code_fits : (s - (w + 1)) * L + n < 2 ^ 64
         code_fits =
-            let a : closest m (2 ^ (s - (w + 1))) ≤ bound f = few f k lay m (s - (w + 1)) high.1 in
+            let a : closest m (2 ^ (s - (w + 1))) ≤ bound f = few f k lay m (s - (w + 1)) large.1 in
             omega (arith, times, near, scale_fits f k lay (s - (w + 1)) (omega arith), bound_twice f k lay, lead_pos f, lay.word)
 
         is_closest : (s - (w + 1)) * L + n ≡ (s - (w + 1)) * f.lead + closest m (2 ^ (s - (w + 1)))
@@ -91,12 +84,12 @@ module _ (f : Format) (k : ℕ) (lay : Layout f k) (m s w : ℕ) (size : LeastBi
         middle h =
             let d = s - (w + 1) in
             let z : 0 + d ≡ d = zero-add d in
-            let y = rounded f k lay m 0 d (omega arith) high.0 high.1 (subst (λ (x : ℕ). x * f.lead + closest m (2 ^ d) ≤ top_code f) (sym z) (omega (arith, is_closest))) in
-            inside f m (d * L + n) (in_edge f k lay m d (omega arith) high.1 (omega (arith, is_closest)))
+            let y = rounded f k lay m 0 d (omega arith) large.0 large.1 (subst (λ (x : ℕ). x * f.lead + closest m (2 ^ d) ≤ top_code f) (sym z) (omega (arith, is_closest))) in
+            inside f m (d * L + n) (in_edge f k lay m d (omega arith) large.1 (omega (arith, is_closest)))
             (ap (λ (x : ℕ). code f (nearest_ℕ f x)) (sym (mul-one m)) ∙ y.0 ∙ ap (λ (x : ℕ). x * f.lead + closest m (2 ^ d)) z ∙ sym is_closest)
 
         over : top_code f < (s - (w + 1)) * L + n → None ≡ code_in_range f m
-        over h = outside f m (out_edge f k lay m (s - (w + 1)) (omega arith) high.1 (omega (arith, is_closest)))
+        over h = outside f m (out_edge f k lay m (s - (w + 1)) (omega arith) large.1 (omega (arith, is_closest)))
 
         pub last : (o : Option ℕ) → o ≡ then_some (leb ((s - (w + 1)) * L + n) (top_code f)) ((s - (w + 1)) * L + n) → o ≡ code_in_range f m
         last o e = e ∙ go (leb ((s - (w + 1)) * L + n) (top_code f)) refl
