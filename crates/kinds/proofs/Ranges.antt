@@ -101,7 +101,7 @@ module _ (f : Format) (k : ℕ) (lay : Layout f k) (m s w : ℕ) (size : LeastBi
 pub ruleset ranges = (whole, part, long)
 
 -- ---- with the sign
-module _ (f : Format) (k : ℕ) (lay : Layout f k) (v : ℤ) (m : ℕ) (o : Option ℕ) (n : Bool) (is : m ≡ nat_abs v) (e : o ≡ code_in_range f m) (sign : n ≡ lt_z v (pos 0)) where
+module _ (f : Format) (k : ℕ) (lay : Layout f k) (v : ℤ) (m : ℕ) (o : Option ℕ) (n : Bool) (is : m ≡ nat_abs v) (e : o ≡ code_in_range f m) where
   in_parts : (c : ℕ) → o ≡ Some c → (nat_abs v < edge f) × (c ≡ code f (nearest_ℕ f (nat_abs v)))
   in_parts c i = go (ltb (nat_abs v) (edge f)) refl (sym i ∙ e ∙ ap (code_in_range f) is)
     where
@@ -119,14 +119,14 @@ module _ (f : Format) (k : ℕ) (lay : Layout f k) (v : ℤ) (m : ℕ) (o : Opti
   pub code_below : (c : ℕ) → o ≡ Some c → c < sign_bit f
   code_below c i = lt_of_le_of_lt (le_of_eq (in_parts c i).1) (code_small f k lay (nat_abs v))
 
-  pub read : (c s : ℕ) → o ≡ Some c → s ≡ signed_code f n c → Ok s ≡ answered (outcome (binary f) v)
-  read c s i h =
+  pub read : (c s : ℕ) → o ≡ Some c → s ≡ signed_code f n c → n ≡ lt_z v (pos 0) → Ok s ≡ answered (outcome (binary f) v)
+  read c s i h sign =
       let x = in_parts c i in
       ap Ok (sum_is f k lay n (nat_abs v) c s x.1 h ∙ ap (nearest_of f) (ap (λ (t : Bool). signed_by t (nat_abs v)) sign ∙ sym (sign_is v)))
       ∙ sym (ap (λ (o : Outcome ℤ). answered (told_by (pattern f) o)) (outcome_inside f v x.0))
 
-  pub read_past : (r : Refusal) → o ≡ None → r ≡ cond n BelowRange AboveRange → Err r ≡ answered (outcome (binary f) v)
-  read_past r i h = go n sign h
+  pub read_past : (r : Refusal) → o ≡ None → r ≡ cond n BelowRange AboveRange → n ≡ lt_z v (pos 0) → Err r ≡ answered (outcome (binary f) v)
+  read_past r i h sign = go n sign h
     where
       go : (t : Bool) → t ≡ lt_z v (pos 0) → r ≡ cond t BelowRange AboveRange → Err r ≡ answered (outcome (binary f) v)
       go true s h = let l = out i in ap Err h ∙ sym (ap (λ (o : Outcome ℤ). answered (told_by (pattern f) o)) (outcome_under f v (omega (arith, ints))))

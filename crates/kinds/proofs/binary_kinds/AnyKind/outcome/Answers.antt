@@ -5,8 +5,8 @@ use Rattle.kinds.proofs.binary_kinds.AnyKind.outcome.Goals as goal
 
 pub signed-requires : goal.signed-requires
 signed-requires g c =
-    code_below g.B.Binary.format g.B.Binary.FRACTION g.B.Binary.layout (value c.args.sum.now) _ _ _ c.magnitude.ensures c.rounded.ensures c.is_negative-negative.ensures _ (search rules)
+    code_below g.B.Binary.format g.B.Binary.FRACTION g.B.Binary.layout (value c.args.sum.now) _ _ c.is_negative-negative.result c.magnitude.ensures c.rounded.ensures _ (search rules)
 
 pub returns : goal.returns
 returns g c =
-    read g.B.Binary.format g.B.Binary.FRACTION g.B.Binary.layout (value c.args.sum.now) _ _ _ c.magnitude.ensures c.rounded.ensures c.is_negative-negative.ensures _ _ (search rules) c.signed.ensures
+    read g.B.Binary.format g.B.Binary.FRACTION g.B.Binary.layout (value c.args.sum.now) _ _ _ c.magnitude.ensures c.rounded.ensures c.in_ok-code.code _ (search rules) c.signed.ensures (search rules)
