@@ -117,6 +117,7 @@ mod tests {
     // No number of any kind.
     const NONE: u64 = u64::MAX;
 
+    // The `enter` of `accounts` tells no answer.
     fn enter<K: Kind, A: Account<K>>(account: &mut A, entry: Entry) -> Result<(), Refusal> {
         match entry {
             Entry::Post(p) => account.post(p),

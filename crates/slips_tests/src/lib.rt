@@ -94,6 +94,7 @@ mod tests {
         (Post(1), Ok(0x8000_0001)),
     ];
 
+    // The `enter` of `accounts` tells no answer.
     fn enter<K: Kind>(slips: &mut Slips<K>, entry: Entry) -> Result<(), Refusal> {
         match entry {
             Post(p) => slips.post(p),
@@ -127,13 +128,8 @@ mod tests {
         Ok(())
     }
 
-    // Slips of a kind that is a parameter: the check does not read `Slips<Count>`, since another `impl` of `Kind` is for every `Binary`.
-    fn fresh_turns<K: Kind>(rt: &impl Abort, each: &[Turn], none: u64) -> Result<(), Fail> {
-        turns(rt, &mut Slips::<K>::open(()), each, none)
-    }
-
     #[test]
     fn readings_out_of_range(rt: HostRuntime) -> Result<(), Fail> {
-        fresh_turns::<Count>(&rt, &LITRES, 0x8000_0000)
+        turns(&rt, &mut Slips::<Count>::open(()), &LITRES, 0x8000_0000)
     }
 }

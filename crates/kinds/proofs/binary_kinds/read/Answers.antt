@@ -1,7 +1,7 @@
 use Rattle.std.proofs.Common.{rules}
 use Rattle.register.specs.Value.{value}
 use Rattle.kinds.proofs.Ranges.{code_below, read}
-use Rattle.kinds.proofs.binary_kinds.AnyKind.outcome.Goals as goal
+use Rattle.kinds.proofs.binary_kinds.read.Goals as goal
 
 pub signed-requires : goal.signed-requires
 signed-requires g c =
