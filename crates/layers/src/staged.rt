@@ -12,6 +12,7 @@ pub struct Staged<K: Kind, A: Account<K>> {
     pub(crate) below: A,
     pub(crate) kept: ArrayVec<u64, 16>,
     pub(crate) kind: PhantomData<K>,
+    ghost few: { length kept.items ≤ 16 },
     ghost numbers: { All (λ p. T (K.Kind.number p)) kept.items } by { Prim.hlevel props },
     ghost within: { (A.Account.meaning below).entries + length kept.items ≤ (A.Account.meaning below).limit },
 }
