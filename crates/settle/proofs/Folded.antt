@@ -1,6 +1,7 @@
 -- The fold of the gauges of some numbers is their gauge.
-use Rattle.std.proofs.Common.{◌≡◌, ℕ, ◌+◌, ◌^◌, ◌<◌, ◌≤◌, min, max, List, [], ◌∷◌, ◌++◌, length, get_or, take, fold, sym, ◌∙◌, subst, inl, inr, lt_of_lt_of_le, arith, pow_mono}
+use Rattle.std.proofs.Common.{◌≡◌, ℕ, ◌+◌, ◌^◌, ◌<◌, ◌≤◌, min, max, List, [], ◌∷◌, ◌++◌, length, get_or, take, fold, sym, ◌∙◌, subst, inl, inr, lt_of_lt_of_le, arith, pow_mono, ap, lt-ltb, le-ltb, nat_lt}
 use Rattle.std.specs.List.{AllZip}
+use Rattle.std.specs.Int.{from_bool}
 use Rattle.std.proofs.lemmas.List.{take_more}
 use Rattle.std.proofs.lemmas.Bool.{cases_lt}
 use Rattle.settle.specs.declared.gauge.Gauge.{Gauge}
@@ -12,18 +13,20 @@ use Rattle.std.proofs.lemmas.List.Elements.{All-nil, All-cons, All-head, All-tai
 use Rattle.settle.proofs.Powers.{under_weaker}
 use Rattle.settle.specs.Seen.{Below, One, Many, Peak}
 
-pub one_count : (m s n : ℕ) → LeastBits m s → 0 < s → n ≡ 1 → n ≡ min 1 m
-one_count m s n z h e =
-    elim (cases_lt 0 m) [
-      | inl a ↦ omega arith
-      | inr a ↦ let b : m < 2 ^ 0 = omega arith in absurd (omega (arith, z.least 0 b))
+-- a number with bits is one in use
+pub counted_by : (m s n : ℕ) → LeastBits m s → n ≡ from_bool (nat_lt 0 s) → n ≡ min 1 m
+counted_by m s n z e =
+    elim (cases_lt 0 s) [
+      | inl h ↦
+          elim (cases_lt 0 m) [
+            | inl a ↦ e ∙ ap from_bool (lt-ltb 0 s h) ∙ omega arith
+            | inr a ↦ let b : m < 2 ^ 0 = omega arith in absurd (omega (arith, z.least 0 b))
+          ]
+      | inr h ↦
+          let i : s ≡ 0 = omega arith in
+          let b : m < 2 ^ 0 = subst (λ k. m < 2 ^ k) i z.enough in
+          e ∙ ap from_bool (le-ltb 0 s h) ∙ omega arith
     ]
-
-pub no_count : (m s n : ℕ) → LeastBits m s → s ≤ 0 → n ≡ 0 → n ≡ min 1 m
-no_count m s n z h e =
-    let i : s ≡ 0 = omega arith in
-    let b : m < 2 ^ 0 = subst (λ k. m < 2 ^ k) i z.enough in
-    omega arith
 
 -- each gauge is that of its number
 abbrev pub Ones : {K : Type 0} → Ghosts K → List ℕ → List Gauge → Type 0

@@ -15,8 +15,10 @@ fn gauge_of_number<K: Kind>(p: u64) -> Gauge
     ensures { One K.Kind p result }
 {
     let peak = sum_of::<K>(&[p]).magnitude().bit_length();
-    let count = if peak > 0 { 1 } else { 0 };
-    Gauge { count, peak }
+    Gauge {
+        count: u32::from(peak > 0),
+        peak,
+    }
 }
 
 // The gauge of many numbers, by the one fold.
@@ -24,6 +26,7 @@ pub(crate) fn gauge_of<K: Kind>(numbers: &[u64]) -> Gauge
     requires { (Numbers K.Kind numbers.now) × (length numbers.now ≤ 4096) }
     ensures { Many K.Kind numbers.now result }
 {
+    // A rule of the project: the one fold goes over a slice, so the gauges stand in fixed memory.
     let mut gauges = ArrayVec::<Gauge, 4096>::new();
     for &p in numbers {
         gauges.push(gauge_of_number::<K>(p));

@@ -6,6 +6,7 @@ ghost use Rattle.settle.specs.Laws.{both_assoc, both_comm, both_none};
 use crate::gauge::Gauge;
 use join::Join;
 
+// By hand, since no derive makes a struct with a ghost field.
 impl Default for Gauge {
     ghost is_default = { λ gauge. gauge ≡ none_seen };
 

@@ -1,7 +1,7 @@
 //! The settle.
-ghost use Rattle.std.specs.Prelude.{◌-◌, ◌≤◌, length};
-ghost use Rattle.plans.specs.Plan.{IsPlan};
-ghost use Rattle.slots.specs.Pass.{Numbers, Cleared};
+ghost use Rattle.std.specs.Prelude.{◌≤◌, length};
+ghost use Rattle.slots.specs.Asked.{Granted};
+ghost use Rattle.slots.specs.Pass.{Cleared};
 ghost use Rattle.settle.specs.Test.{TestTells};
 ghost use Rattle.settle.specs.Settle.{SettleMeans, SettleAnswer};
 
@@ -44,10 +44,7 @@ fn asked_settle<K: Kind>(
 }
 
 fn settle_by<K: Kind>(slots: &mut [u64], column: &mut [u64], plan: &[u8], budget: u8) -> Settled
-    requires count { (2 ≤ length slots.old) × (length slots.old ≤ 4096) }
-    requires numbers { Numbers K.Kind slots.old }
-    requires room { length slots.old ≤ length column.old }
-    requires written { IsPlan (length slots.old - 1) plan.now }
+    requires granted { Granted K.Kind slots.old (length column.old) plan.now }
     requires most { budget ≤ 8 }
     ensures answer { SettleMeans K.Kind plan.now budget slots.old slots.new result }
     ensures column { Cleared (length slots.old) column.old column.new }

@@ -1,14 +1,14 @@
 use refusals::Refusal;
 
 /// What told an outcome.
-#[derive(Clone, Copy, PartialEq, Eq)]
+#[derive(Clone, Copy, PartialEq, Eq, Debug)]
 pub enum Teller {
     Test,
     Register,
 }
 
 /// What a settle comes to.
-#[derive(Clone, Copy, PartialEq, Eq)]
+#[derive(Clone, Copy, PartialEq, Eq, Debug)]
 pub struct Settled {
     /// A number, or the refusal that says it is above or below the range.
     pub outcome: Result<u64, Refusal>,

@@ -1,7 +1,7 @@
 //! What a pass does to the words of slots and column.
-ghost use Rattle.std.specs.Prelude.{◌≡◌, ◌+◌, ◌-◌, ◌<◌, ◌≤◌, T, length, slice_index, slice_set};
-ghost use Rattle.plans.specs.Plan.{IsPlan};
-ghost use Rattle.slots.specs.Pass.{sum_of, rest_of, Passed, Numbers, Cleared};
+ghost use Rattle.std.specs.Prelude.{◌≡◌, ◌+◌, ◌<◌, ◌≤◌, T, length, slice_index, slice_set};
+ghost use Rattle.slots.specs.Asked.{Granted};
+ghost use Rattle.slots.specs.Pass.{sum_of, rest_of, Passed, Cleared};
 
 use kinds::kind::Kind;
 
@@ -39,17 +39,16 @@ fn add_lead<K: Kind>(slots: &mut [u64], value: u64)
 /// A pass that is granted. The values of the parts that wait for their closing bracket stand in the column.
 // The three borrows stay apart: of a struct that holds them a clause names what is left by its position, `bench.exit.0.now` for `slots.new`.
 pub fn pass_by<K: Kind>(slots: &mut [u64], column: &mut [u64], plan: &[u8])
-    requires count { (2 ≤ length slots.old) × (length slots.old ≤ 4096) }
-    requires numbers { Numbers K.Kind slots.old }
-    requires room { length slots.old ≤ length column.old }
-    requires written { IsPlan (length slots.old - 1) plan.now }
+    requires { Granted K.Kind slots.old (length column.old) plan.now }
     ensures slots { Passed K.Kind plan.now slots.old slots.new }
     ensures column { Cleared (length slots.old) column.old column.new }
 {
+    // Places and not items: the column is a stack in the caller's memory, and slots are written behind those that are read.
     let mut next = 1;
     let mut held = 0;
     let mut pairs = 0;
     for byte in plan {
+        // A rule of the project: the characters of a plan are matched as such.
         match *byte as char {
             '.' => {
                 column[held] = slots[next];

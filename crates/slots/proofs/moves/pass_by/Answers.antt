@@ -5,7 +5,7 @@ use Rattle.slots.proofs.moves.pass_by.Goals as goal
 use Rattle.slots.proofs.moves.pass_by.Goals.{in-46, in-40, in-41}
 
 pub loop-byte-init : goal.loop-byte-init
-loop-byte-init g c = begin _ g.met.K.Kind.lawful _ _ _ c.requires.count.0 c.requires.numbers c.requires.room c.requires.written
+loop-byte-init g c = begin _ g.met.K.Kind.lawful _ _ _ c.requires.count.0 c.requires.numbers c.requires.room c.requires.plan
 
 pub bounds-slots-next : goal.bounds-slots-next
 bounds-slots-next g c = (dot_room _ g.met.K.Kind.lawful _ _ _ _ _ _ _ _ _ c.loop-byte.invariant c.loop-byte-test.true c.in-46.is).0
