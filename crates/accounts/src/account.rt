@@ -32,6 +32,7 @@ pub trait Account<K: Kind>: Sized {
         ensures after { meaning self.new ≡ after_post K.Kind p (meaning self.old) }
         ensures leaves { Leaves (enters self.old p) self.old self.new result };
 
+    // A call of its own by a rule of the project, though it differs from a post by one opposite.
     /// Takes the number's worth from the total and adds 1 to the entries: the number is accepted as its opposite.
     fn withdraw(&mut self, p: u64) -> Result<(), Refusal>
         ensures answer { result ≡ entry_answer K.Kind p (meaning self.old) }

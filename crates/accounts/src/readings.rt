@@ -2,7 +2,7 @@
 ghost use Rattle.std.specs.Prelude.{◌≡◌, ℕ, List, ℤ};
 ghost use Rattle.std.specs.Iterator.{Drains, IsFinite};
 ghost use Rattle.kinds.specs.Answer.{answered};
-ghost use Rattle.accounts.specs.Entries.{sum_of, meant, entered_by, accepted, Readings};
+ghost use Rattle.accounts.specs.Entries.{sum_of, meant, entered_by, accepted, AnyOrder, Readings};
 ghost use Rattle.accounts.specs.declared.readings.Entry.{Entry};
 
 use crate::account::Account;
@@ -10,7 +10,7 @@ use kinds::kind::Kind;
 use refusals::Refusal;
 
 /// An entry for an account: a number that is posted or withdrawn, as its pattern.
-#[derive(Clone, Copy)]
+#[derive(Clone, Copy, PartialEq, Eq, Debug)]
 pub enum Entry {
     Post(u64),
     Withdraw(u64),
@@ -44,13 +44,15 @@ pub fn reading<K: Kind, A: Account<K> + Drop, I: Iterator<Item = Entry> + Drop>(
 }
 
 /// Opens two accounts of one kind, asks each for its entries in their order, and reads both.
+#[tactic(auto, using(crate::proofs::Entries::any_order_lem))]
 pub fn readings<K: Kind, A: Account<K> + Drop, B: Account<K> + Drop>(
     one: A::Setup,
     first: &[Entry],
     other: B::Setup,
     second: &[Entry],
 ) -> (Result<u64, Refusal>, Result<u64, Refusal>)
-    ensures { Readings K.Kind (A.Account.agreed one) (B.Account.agreed other) first.now second.now result.0 result.1 }
+    ensures alike { Readings K.Kind (A.Account.agreed one) (B.Account.agreed other) first.now second.now result.0 result.1 }
+    ensures order { AnyOrder }
 {
     (
         reading::<K, A, _>(one, first.iter().copied()),

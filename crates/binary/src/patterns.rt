@@ -53,6 +53,7 @@ pub fn fits<B: Binary>(code: u64) -> bool
     code <= B::top()
 }
 
+// The sign is a field of the pattern, not a word that says whether there is one.
 /// A pattern without a sign given one; zero takes none.
 pub fn signed<B: Binary>(negative: bool, code: u64) -> u64
     requires { code < sign_bit B.Binary.format }

@@ -1,4 +1,4 @@
-//! The exported calls. They ask nothing of a caller but what their types say.
+//! The exported calls. They ask nothing of a caller but what their types say. C takes no generic function, so there is one for each width.
 ghost use Rattle.std.specs.Prelude.{◌≡◌};
 ghost use Rattle.numbers.specs.Binary.{binary, binary32, binary64};
 ghost use Rattle.exports.specs.Exports.{sums_by, reads_by};

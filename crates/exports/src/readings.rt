@@ -7,7 +7,7 @@ use accounts::readings::{Entry, reading};
 use kinds::kind::Kind;
 use refusals::Refusal;
 
-// A number, or all ones less the number of a refusal.
+// A number, or all ones less the number of a refusal: C has no Result.
 fn word(answer: Result<u64, Refusal>) -> u64
     ensures { result ≡ marked answer }
 {

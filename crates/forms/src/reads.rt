@@ -27,7 +27,7 @@ pub fn read_kind(line: &[u8]) -> Option<KindName>
     kind_of(line)
 }
 
-// The digits stay a number with a bound: the public calls take any `usize` up to 16.
+// The digits stay a number with a bound: a type of them would be narrower than what the public calls take.
 #[tactic(auto, using(crate::proofs::Numbers::no_visit))]
 fn visit_of(digits: usize, line: &[u8]) -> Option<Visit>
     requires { digits ≤ 16 }

@@ -1,4 +1,5 @@
-//! What the lines speak of.
+//! What the lines speak of. These are not the visits of `books`: a session has the left side and three calls today.
+
 /// A kind that a session can be opened for.
 #[derive(Clone, Copy, PartialEq, Eq, Debug)]
 pub enum KindName {

@@ -1,4 +1,4 @@
-//! The theorems, each proved by the lemmas of proofs/.
+//! The theorems, each proved by the lemmas of proofs/. The public calls stand apart, so that an edit of one is refused for its meaning.
 ghost use Rattle.numbers.specs.Format.{Format};
 ghost use Rattle.numbers.specs.Coding.{Coding};
 ghost use Rattle.numbers.specs.Theorems.{OneNearest, OrderedOutcomes, HeldRemainder, LawfulCoding};

@@ -26,6 +26,7 @@ pub fn read_plan(text: &[u8], dots: usize) -> Result<(), Refusal>
     whole_plan(text, dots).map_err(Refusal::NotAPlan)
 }
 
+// The dots stay a number with a bound: a type of them would be narrower than what the public calls take.
 // How many bytes each plan with so many dots has: one for each dot, and two brackets for each dot but one.
 pub(crate) fn plan_bytes(dots: usize) -> usize
     requires { (1 ≤ dots) × (dots ≤ 4095) }

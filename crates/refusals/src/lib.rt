@@ -38,7 +38,7 @@ pub enum Refusal {
 }
 
 impl Refusal {
-    // The number and the place are told for the lines and the exported calls; in the code a refusal is its case.
+    // In the code a refusal is its case. That it tells a number and a place, 0 where it has none, is a rule of the project: lines and exported calls tell the number.
     /// The number of the question that was answered no.
     pub fn number(&self) -> u8
         ensures { result ≡ (told self.now).number }

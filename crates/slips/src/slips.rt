@@ -8,6 +8,7 @@ use std::marker::PhantomData;
 /// An account that keeps its entries in 64 slots, each a number, with the column in which a reading settles them. No more slots are in use than there are entries.
 #[derive(Drop)]
 pub struct Slips<K: Kind> {
+    // Fixed memory: always 64 words, however many are in use.
     pub(crate) slots: [u64; 64],
     pub(crate) column: [u64; 64],
     pub(crate) count: u32,

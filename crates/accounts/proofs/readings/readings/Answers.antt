@@ -7,8 +7,8 @@ use Rattle.accounts.specs.declared.readings.Entry.{Entry}
 use Rattle.accounts.proofs.Entries.{drained, readings_alike}
 use Rattle.accounts.proofs.readings.readings.Goals as goal
 
-pub returns : goal.returns
-returns g c =
+pub returns-clause-alike : goal.returns-clause-alike
+returns-clause-alike g c =
     let k = g.K.Kind in
     let one = c.reading.ensures in
     let other = c.reading-2.ensures in
