@@ -9,8 +9,7 @@ use Rattle.numbers.specs.Binary.{code, pattern, sign_bit}
 use Rattle.numbers.proofs.Nearest.{nearest_ℕ_held}
 use Rattle.numbers.proofs.Signed.{nearest_of_held}
 use Rattle.numbers.proofs.Adding.{absorbed}
-use Rattle.numbers.proofs.Words.{unit_is}
-use Rattle.numbers.proofs.Binary.{lead_pos, code_of}
+use Rattle.numbers.proofs.Binary.{lead_pos, code_of, unit_is}
 use Rattle.register.specs.Wrap.{signed_by, scaled}
 use Rattle.binary.specs.Layout.{Layout, signed_code, nearest_of, Settled}
 use Rattle.register.specs.Value.{meant}

@@ -11,9 +11,9 @@ use Rattle.numbers.proofs.Rounded.{closest_is}
 use Rattle.numbers.proofs.Scales.{Scaled, scaled, scaled_one, unit_pos, unit_mono, next, lead_lt, held_top, held_le_top}
 use Rattle.numbers.proofs.Nearest.{nearest_ℕ_held, nearest_ℕ_near, nearest_ℕ_of_held}
 use Rattle.numbers.proofs.Signed.{held_zero}
-use Rattle.numbers.proofs.Binary.{code_of, code_zero, code_below}
+use Rattle.numbers.proofs.Binary.{code_of, code_zero, code_below, unit_is, bound_is}
 use Rattle.numbers.proofs.Adding.{shifted, nearest_ℕ_shifted}
-use Rattle.numbers.proofs.Words.{unit_is, bound_is, code_top, code_nearest}
+use Rattle.numbers.proofs.Words.{code_top, code_nearest}
 use Rattle.binary.specs.Layout.{Layout, top_code}
 
 module _ (f : Format) (k : ℕ) (lay : Layout f k) where

@@ -1,7 +1,7 @@
 -- The pattern of a nearest number by one sum: that of its scale and its rounded coefficient, and no more than the top's.
 use mathlib.Core.Path.{◌≡◌, refl, sym, ap, ◌∙◌, subst}
 use mathlib.Core.Logic.{◌⊎◌, inl, inr}
-use Prim.Native.Nat.{ℕ, suc, ◌+◌, ◌-◌, ◌*◌, ◌/◌, ◌%◌, ◌^◌, ◌≤◌, ◌<◌, min, compare}
+use Prim.Native.Nat.{ℕ, suc, ◌+◌, ◌-◌, ◌*◌, ◌/◌, ◌%◌, ◌≤◌, ◌<◌, min, compare}
 use native.Mathlib.Nat.{le_trans, le_of_eq, le_refl, mul-le-mul_right, mul-lt-mul_of_pos_right, le-div_iff_mul-le, div-lt_iff_lt-mul, min-eq_left, min-eq_right, suc-mul}
 use native.Mathlib.Decide.{dec_le}
 use native.Mathlib.Omega.{arith}
@@ -12,18 +12,12 @@ use Rattle.numbers.specs.Binary.{code}
 use Rattle.numbers.proofs.Rounded.{closest_is}
 use Rattle.numbers.proofs.Scales.{Scaled, scaled, scaled_one, unit_pos, lead_lt, held_le_top, next}
 use Rattle.numbers.proofs.Nearest.{nearest_ℕ_is}
-use Rattle.numbers.proofs.Binary.{code_of}
+use Rattle.numbers.proofs.Binary.{code_of, bound_is}
 
 module _ (f : Format) (bin : f.radix ≡ 2) where
-  pub unit_is : (q : ℕ) → unit f q ≡ 2 ^ q
-  unit_is q = ap (λ (x : ℕ). x ^ q) bin
-
-  pub bound_is : bound f ≡ f.lead + f.lead
-  bound_is = ap (λ (x : ℕ). f.lead * x) bin ∙ omega arith
-
   -- ---- the pattern: the scale's and the rounded coefficient's, summed, and no more than the top's
   pub code_top : code f (top f) ≡ f.scales * f.lead + (bound f - 1)
-  code_top = code_of f (bound f - 1) f.scales (omega (arith, f.three)) (le_refl f.scales) (inr (omega (arith, bound_is, f.three)))
+  code_top = code_of f (bound f - 1) f.scales (omega (arith, f.three)) (le_refl f.scales) (inr (omega (arith, bound_is f bin, f.three)))
 
   pub code_nearest : (m : ℕ)
       → (let q = scale_of f m in code f (nearest_ℕ f m) ≡ min (q * f.lead + closest m (unit f q)) (f.scales * f.lead + (bound f - 1)))
@@ -50,7 +44,7 @@ module _ (f : Format) (bin : f.radix ≡ 2) where
                         let y : suc q * L ≡ q * L + L = suc-mul q L in
                         ap (code f) (t.0 ∙ ap (λ (z : ℕ). z * u) c ∙ next f q)
                         ∙ code_of f L (suc q) (lead_lt f) j (inr (le_refl L))
-                        ∙ sym (min-eq_left (omega (arith, bound_is, lead_lt f)) ∙ omega (arith, bound_is))
+                        ∙ sym (min-eq_left (omega (arith, bound_is f bin, lead_lt f)) ∙ omega (arith, bound_is f bin))
                     | no j ↦
                         let z : q ≡ f.scales = omega (arith, s.within) in
                         let a : n * u ≤ top f = held_le_top f t.1 in
