@@ -3,7 +3,8 @@ use Rattle.std.specs.Prelude.{◌≡◌, ℕ, ◌^◌, ◌<◌, List, [], ◌∷
 use Rattle.refusals.specs.declared.Refusal.{Refusal}
 use Rattle.refusals.specs.declared.Refusal.TheVariants.{NotAForm}
 use Rattle.numbers.specs.Binary.{binary64, binary32, binary}
-use Rattle.numbers.specs.Coding.{Coding, opposite, adder, outcome}
+use Rattle.numbers.specs.Coding.{Coding}
+use Rattle.kinds.specs.Coded.{coded}
 use Rattle.kinds.specs.Count.{counts}
 use Rattle.kinds.specs.declared.kind.Kind.{Ghosts}
 use Rattle.forms.specs.Read.{read_visit, read_kind}
@@ -35,12 +36,8 @@ abbrev pub digits : Book → ℕ
 digits untold = 8
 digits (told n b) = digits_of n
 
--- what a kind tells by its coding
-abbrev pub kind_of : {K : Type 0} → Coding → Ghosts K
-kind_of k = record { number = k.number; worth = k.worth; opposite = opposite k; adder = adder k; outcome = outcome k }
-
 abbrev pub kind_by : KindName → Ghosts (Unit {0})
-kind_by n = kind_of (coding n)
+kind_by n = coded (coding n)
 
 -- the left account is a register account
 abbrev pub opened : Logbook
