@@ -1,5 +1,5 @@
 -- The count kind's meanings, by ranges: what its code computes.
-use Rattle.std.specs.Prelude.{◌≡◌, ℕ, suc, ◌-◌, ◌/◌, ◌%◌, ◌^◌, ◌<◌, ◌≤◌, min, Bool, true, false, cond, not, ◌&&◌, T, ℤ, pos, negsuc, ◌+ℤ◌, ◌-ℤ◌, neg_ℤ, ◌≤ℤ◌, ◌<ℤ◌, Ok, Err, ◌==◌, ◌≢◌, int_lt, nat_lt, unsigned_abs, refl}
+use Rattle.std.specs.Prelude.{◌≡◌, ℕ, suc, ◌-◌, ◌/◌, ◌%◌, ◌^◌, ◌<◌, ◌≤◌, min, Bool, true, false, cond, not, T, ℤ, pos, negsuc, ◌+ℤ◌, ◌-ℤ◌, neg_ℤ, ◌≤ℤ◌, ◌<ℤ◌, Ok, Err, ◌==◌, ◌≢◌, int_lt, nat_lt, unsigned_abs, refl}
 use Rattle.std.proofs.Common.{sym, ap, ◌∙◌, div-one, mod-eq_of_lt, lt_of_lt_of_le, mul-one, arith, lt-ltb, le-ltb, eqb-true, ltb→lt, lt→ltb, lit<, pow_mono}
 use Rattle.std.proofs.Math.Decide.{dec_le}
 use Rattle.std.proofs.lemmas.Int.{ints, clamps}
@@ -11,6 +11,7 @@ use Rattle.refusals.specs.declared.Refusal.TheVariants.{AboveRange, BelowRange}
 use Rattle.numbers.specs.Nearest.{nearest_ℕ, nearest}
 use Rattle.numbers.specs.Coding.{Codes, adder, outcome}
 use Rattle.numbers.specs.Outcome.{told_by, number}
+use Rattle.numbers.proofs.Binary.{and_left, and_right, and_both}
 use Rattle.numbers.proofs.Signed.{nearest_of_held}
 use Rattle.numbers.proofs.Outcomes.{outcome_inside, outcome_over, outcome_under}
 use Rattle.register.specs.Limbs.{LeastBits}
@@ -29,14 +30,6 @@ pub worth_high : (p : ℕ) → 2 ^ 31 ≤ p → count_worth p ≡ neg_ℤ (pos (
 unfolding count_worth
 worth_high p h = ap (λ (t : Bool). cond t (pos p) (neg_ℤ (pos (2 ^ 32 - p)))) (le-ltb p (2 ^ 31) h)
 
-and_parts : (a b : Bool) → T (a && b) → T a × T b
-and_parts true b t = (tt, t)
-and_parts false b t = (t, absurd t)
-
-and_both : (a b : Bool) → T a → T b → T (a && b)
-and_both true b t u = u
-and_both false b t u = t
-
 not_eq : (m n : ℕ) → T (not (m == n)) → m ≢ n
 not_eq m n = go (m == n) refl
   where
@@ -54,9 +47,8 @@ eq_not m n h = go (m == n) refl
 -- a number has 32 bits, and is below 2 ^ 31 in magnitude
 pub number_out : (p : ℕ) → T (is_count p) → (p < 2 ^ 32) × (unsigned_abs (count_worth p) < 2 ^ 31)
 number_out p t =
-    let parts = and_parts (nat_lt p (2 ^ 32)) (not (p == 0x8000_0000)) t in
-    let l = ltb→lt p (2 ^ 32) parts.0 in
-    let n = not_eq p 0x8000_0000 parts.1 in
+    let l = ltb→lt p (2 ^ 32) (and_left (nat_lt p (2 ^ 32)) (not (p == 0x8000_0000)) t) in
+    let n = not_eq p 0x8000_0000 (and_right (nat_lt p (2 ^ 32)) (not (p == 0x8000_0000)) t) in
     elim (dec_le (2 ^ 31) p) [
       | yes h ↦ (l, omega (arith, ints, worth_high p h))
       | no h ↦ (l, omega (arith, ints, worth_low p (omega arith)))
