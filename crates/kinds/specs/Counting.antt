@@ -1,5 +1,5 @@
 -- The count kind's meanings, by ranges: what its code computes.
-use Rattle.std.specs.Prelude.{◌≡◌, ℕ, suc, ◌-◌, ◌/◌, ◌%◌, ◌^◌, ◌<◌, ◌≤◌, min, Bool, true, false, cond, not, T, ℤ, pos, negsuc, ◌+ℤ◌, ◌-ℤ◌, neg_ℤ, ◌≤ℤ◌, ◌<ℤ◌, Ok, Err, ◌==◌, ◌≢◌, int_lt, nat_lt, unsigned_abs, refl}
+use Rattle.std.specs.Prelude.{◌≡◌, ℕ, suc, ◌-◌, ◌/◌, ◌%◌, ◌^◌, ◌<◌, ◌≤◌, min, Bool, true, false, cond, not, T, ℤ, pos, negsuc, ◌+ℤ◌, ◌-ℤ◌, neg_ℤ, Ok, Err, ◌==◌, ◌≢◌, int_lt, nat_lt, unsigned_abs, refl}
 use Rattle.std.proofs.Common.{sym, ap, ◌∙◌, div-one, mod-eq_of_lt, lt_of_lt_of_le, mul-one, arith, lt-ltb, le-ltb, eqb-true, ltb→lt, lt→ltb, lit<, pow_mono}
 use Rattle.std.proofs.Math.Decide.{dec_le}
 use Rattle.std.proofs.lemmas.Int.{ints, clamps}
@@ -56,16 +56,6 @@ number_out p t =
 
 number_in : (p : ℕ) → p < 2 ^ 32 → (p ≢ 0x8000_0000) → T (is_count p)
 number_in p l n = and_both (nat_lt p (2 ^ 32)) (not (p == 0x8000_0000)) (lt→ltb p (2 ^ 32) l) (eq_not p 0x8000_0000 n)
-
-pub pattern_low : (z : ℤ) → pos 0 ≤ℤ z → count_pattern z ≡ unsigned_abs z
-unfolding count_pattern
-pattern_low (pos m) h = refl
-pattern_low (negsuc m) h = absurd (omega (arith, ints))
-
-pub pattern_high : (z : ℤ) → z <ℤ pos 0 → unsigned_abs z < 2 ^ 31 → count_pattern z ≡ 2 ^ 32 - unsigned_abs z
-unfolding count_pattern
-pattern_high (pos m) h l = absurd (omega (arith, ints))
-pattern_high (negsuc m) h l = refl
 
 -- ---- two's complement by the library
 pub worth_is : (p : ℕ) → p < 2 ^ 32 → cast_signed w32 p ≡ count_worth p
