@@ -93,39 +93,48 @@ module _ (f : Format) (k : ℕ) (lay : Layout f k) where
       ∙ nearest_ℕ_shifted f m shift e l (subst (λ (x : ℕ). m < bound f * x) (sym (two e)) b) (inr (subst (λ (x : ℕ). f.lead * x ≤ m) (sym (two e)) g))
       ∙ ap₂ (λ (x y : ℕ). min (closest m x * y) (top f)) (two e) (two (shift + e))
 
+  -- ---- beside the top
+  pub top_two : top f ≡ (bound f - 1) * 2 ^ f.scales
+  top_two = ap (λ (x : ℕ). (bound f - 1) * x) (two f.scales)
+
+  -- what has a lower scale is no more than the top
+  pub below_last : (q : ℕ) → suc q ≤ f.scales → bound f * 2 ^ q ≤ top f
+  below_last q j =
+      let a : bound f * unit f q ≤ f.lead * unit f f.scales = le_trans (le_of_eq (next f q)) (mul-le-mul_left f.lead (unit_mono f j)) in
+      let c : f.lead * unit f f.scales ≤ top f = mul-le-mul_right (unit f f.scales) (omega (arith, lead_lt f)) in
+      let d : bound f * unit f q ≡ bound f * 2 ^ q = ap (λ (x : ℕ). bound f * x) (two q) in
+      omega arith
+
+  -- a pattern past the top's has the greatest scale
+  pub at_last : (n q : ℕ) → n ≤ bound f → top_code f < q * f.lead + n → f.scales ≤ q
+  at_last n q b h =
+      elim (dec_le (suc q) f.scales) [
+        | yes j ↦
+            let a : suc q * f.lead ≤ f.scales * f.lead = mul-le-mul_right f.lead j in
+            let c : suc q * f.lead ≡ q * f.lead + f.lead = suc-mul q f.lead in
+            absurd (omega (arith, bound_twice, lead_lt f))
+        | no j ↦ omega arith
+      ]
+
   -- what a pattern up to the top's stands for is no more than the top
   pub in_range : (n q : ℕ) → q ≤ f.scales → n ≤ bound f → q * f.lead + n ≤ top_code f → n * 2 ^ q ≤ top f
   in_range n q l b h =
-      let L = f.lead in
       elim (dec_le (suc q) f.scales) [
-        | yes j ↦
-            let a : bound f * unit f q ≤ L * unit f f.scales = le_trans (le_of_eq (next f q)) (mul-le-mul_left L (unit_mono f j)) in
-            let c : L * unit f f.scales ≤ top f = mul-le-mul_right (unit f f.scales) (omega (arith, lead_lt f)) in
-            let d : n * 2 ^ q ≤ bound f * unit f q = subst (λ (x : ℕ). n * 2 ^ q ≤ bound f * x) (sym (two q)) (mul-le-mul_right (2 ^ q) b) in
-            omega arith
+        | yes j ↦ le_trans (mul-le-mul_right (2 ^ q) b) (below_last q j)
         | no j ↦
             let z : q ≡ f.scales = omega arith in
-            let e : q * L ≡ f.scales * L = ap (λ (x : ℕ). x * L) z in
+            let e : q * f.lead ≡ f.scales * f.lead = ap (λ (x : ℕ). x * f.lead) z in
             let i : n ≤ bound f - 1 = omega arith in
-            le_trans (mul-le-mul_right (2 ^ q) i) (le_of_eq (ap (λ (x : ℕ). (bound f - 1) * x) (sym (two q) ∙ ap (unit f) z)))
+            le_trans (mul-le-mul_right (2 ^ q) i) (le_of_eq (ap (λ (x : ℕ). (bound f - 1) * 2 ^ x) z ∙ sym top_two))
       ]
 
   pub past : (n q : ℕ) → q ≤ f.scales → n ≤ bound f → top_code f < q * f.lead + n → top f ≤ n * 2 ^ q
   past n q l b h =
-      let L = f.lead in
-      let B = bound_is f lay.binary in
-      let j : f.scales ≤ q =
-      elim (dec_le (suc q) f.scales) [
-        | yes j ↦
-            let a : suc q * L ≤ f.scales * L = mul-le-mul_right L j in
-            let c : suc q * L ≡ q * L + L = suc-mul q L in
-            absurd (omega (arith, lead_lt f))
-        | no j ↦ omega arith
-      ] in
+      let j : f.scales ≤ q = at_last n q b h in
       let z : q ≡ f.scales = omega arith in
-      let e : q * L ≡ f.scales * L = ap (λ (x : ℕ). x * L) z in
+      let e : q * f.lead ≡ f.scales * f.lead = ap (λ (x : ℕ). x * f.lead) z in
       let i : bound f - 1 ≤ n = omega arith in
-      le_trans (le_of_eq (ap (λ (x : ℕ). (bound f - 1) * x) (sym (sym (two q) ∙ ap (unit f) z)))) (mul-le-mul_right (2 ^ q) i)
+      le_trans (le_of_eq (top_two ∙ sym (ap (λ (x : ℕ). (bound f - 1) * 2 ^ x) z))) (mul-le-mul_right (2 ^ q) i)
 
   pub rounded : (m shift e : ℕ) → shift + e ≤ f.scales → f.lead * 2 ^ e ≤ m → m < bound f * 2 ^ e → (shift + e) * f.lead + closest m (2 ^ e) ≤ top_code f
       → (code f (nearest_ℕ f (m * 2 ^ shift)) ≡ (shift + e) * f.lead + closest m (2 ^ e)) × (nearest_ℕ f (m * 2 ^ shift) ≡ closest m (2 ^ e) * 2 ^ e * 2 ^ shift)
@@ -143,7 +152,8 @@ module _ (f : Format) (k : ℕ) (lay : Layout f k) where
   top_is shift l =
       mul_assoc (bound f - 1) (2 ^ (f.scales - shift)) (2 ^ shift)
       ∙ ap (λ (x : ℕ). (bound f - 1) * x)
-      (sym (pow-add 2 (f.scales - shift) shift) ∙ ap (λ (x : ℕ). 2 ^ x) (let e : f.scales - shift + shift ≡ f.scales = omega arith in e) ∙ sym (two f.scales))
+      (sym (pow-add 2 (f.scales - shift) shift) ∙ ap (λ (x : ℕ). 2 ^ x) (let e : f.scales - shift + shift ≡ f.scales = omega arith in e))
+      ∙ sym top_two
 
   at_top : (m shift : ℕ) → shift ≤ f.scales → nearest_ℕ f (m * 2 ^ shift) ≡ top f
       → (code f (nearest_ℕ f (m * 2 ^ shift)) ≡ top_code f) × (nearest_ℕ f (m * 2 ^ shift) ≡ (bound f - 1) * 2 ^ (f.scales - shift) * 2 ^ shift)

@@ -1,5 +1,5 @@
 -- Where a magnitude is out of range, by its rounded coefficient.
-use Rattle.std.proofs.Common.{◌≡◌, ℕ, suc, ◌+◌, ◌-◌, ◌*◌, ◌/◌, ◌%◌, ◌^◌, ◌<◌, ◌≤◌, ◌≢◌, sym, ap, ◌∙◌, subst, le_trans, le_of_eq, mul-le-mul_right, suc-mul, add-mul, mul-le-mul_left, arith, pow_pos}
+use Rattle.std.proofs.Common.{◌≡◌, ℕ, suc, ◌+◌, ◌-◌, ◌*◌, ◌/◌, ◌%◌, ◌^◌, ◌<◌, ◌≤◌, ◌≢◌, sym, ap, ◌∙◌, subst, mul-le-mul_right, suc-mul, add-mul, mul-le-mul_left, arith, pow_pos}
 use native.Mathlib.Nat.{eq_of_mul-eq-mul_right}
 use native.Mathlib.Decide.{dec_le, ℕ_discrete}
 use lib.Ieee.Nearest.{closest}
@@ -7,11 +7,11 @@ use Rattle.numbers.specs.Format.{Format, bound, unit, top}
 use Rattle.numbers.specs.Nearest.{edge}
 use Rattle.numbers.proofs.Rounded.{dist}
 use Rattle.numbers.proofs.Rounded.{closest_near, closest_tie, side}
-use Rattle.numbers.proofs.Scales.{unit_mono, next, lead_lt}
+use Rattle.numbers.proofs.Scales.{unit_mono, next}
 use Rattle.numbers.proofs.Binary.{lead_pos}
 use Rattle.register.specs.Limbs.{Rounded}
 use Rattle.binary.specs.Layout.{Layout, top_code}
-use Rattle.binary.proofs.Nearby.{two, bound_twice, few}
+use Rattle.binary.proofs.Nearby.{two, bound_twice, few, top_two, below_last, at_last}
 use Rattle.binary.proofs.Rounds.{twice}
 
 -- the register rounds to the same number
@@ -47,7 +47,7 @@ module _ (f : Format) (k : ℕ) (lay : Layout f k) where
   past_top : top f + 2 ^ f.scales ≡ bound f * 2 ^ f.scales
   past_top =
       let u = 2 ^ f.scales in
-      let a : top f ≡ (bound f - 1) * u = ap (λ (x : ℕ). (bound f - 1) * x) (two f k lay f.scales) in
+      let a : top f ≡ (bound f - 1) * u = top_two f k lay in
       let b : bound f ≡ suc (bound f - 1) = omega (arith, f.three) in
       let c : bound f * u ≡ suc (bound f - 1) * u = ap (λ (x : ℕ). x * u) b in
       omega (arith, suc-mul (bound f - 1) u)
@@ -68,13 +68,6 @@ module _ (f : Format) (k : ℕ) (lay : Layout f k) where
       let a : (bound f - 1) * 1 ≤ top f = mul-le-mul_left (bound f - 1) (subst (λ (x : ℕ). 1 ≤ x) (sym (two f k lay f.scales)) (pow_pos f.scales)) in
       omega (arith, edge_twice, pow_pos f.scales)
 
-  below_scales : (m e : ℕ) → suc e ≤ f.scales → m < bound f * 2 ^ e → m < edge f
-  below_scales m e j b =
-      let a : bound f * unit f e ≤ f.lead * unit f f.scales = le_trans (le_of_eq (next f e)) (mul-le-mul_left f.lead (unit_mono f j)) in
-      let c : f.lead * unit f f.scales ≤ top f = mul-le-mul_right (unit f f.scales) (omega (arith, lead_lt f)) in
-      let d : bound f * unit f e ≡ bound f * 2 ^ e = ap (λ (x : ℕ). bound f * x) (two f k lay e) in
-      omega (arith, edge_twice)
-
   -- at the greatest scale
   in_last : (m : ℕ) → m < bound f * 2 ^ f.scales → closest m (2 ^ f.scales) ≤ bound f - 1 → m < edge f
   in_last m b l =
@@ -83,7 +76,7 @@ module _ (f : Format) (k : ℕ) (lay : Layout f k) where
       elim (dec_le (edge f) m) [
         | no h ↦ omega arith
         | yes h ↦
-            let t : top f ≡ (bound f - 1) * u = ap (λ (x : ℕ). (bound f - 1) * x) (two f k lay f.scales) in
+            let t : top f ≡ (bound f - 1) * u = top_two f k lay in
             let c : n * u ≤ (bound f - 1) * u = mul-le-mul_right u l in
             let d : dist (n * u) m ≤ dist (bound f * u) m = closest_near m (bound f) (pow_pos f.scales) in
             let E : 2 * edge f ≡ 2 * top f + u = edge_twice in
@@ -97,7 +90,7 @@ module _ (f : Format) (k : ℕ) (lay : Layout f k) where
   out_last : (m : ℕ) → m < bound f * 2 ^ f.scales → closest m (2 ^ f.scales) ≡ bound f → edge f ≤ m
   out_last m b e =
       let u = 2 ^ f.scales in
-      let t : top f ≡ (bound f - 1) * u = ap (λ (x : ℕ). (bound f - 1) * x) (two f k lay f.scales) in
+      let t : top f ≡ (bound f - 1) * u = top_two f k lay in
       let c : closest m u * u ≡ bound f * u = ap (λ (x : ℕ). x * u) e in
       let d : dist (closest m u * u) m ≤ dist ((bound f - 1) * u) m = closest_near m (bound f - 1) (pow_pos f.scales) in
       let E : 2 * edge f ≡ 2 * top f + u = edge_twice in
@@ -107,7 +100,7 @@ module _ (f : Format) (k : ℕ) (lay : Layout f k) where
   pub in_edge : (m e : ℕ) → e ≤ f.scales → m < bound f * 2 ^ e → e * f.lead + closest m (2 ^ e) ≤ top_code f → m < edge f
   in_edge m e l b h =
       elim (dec_le (suc e) f.scales) [
-        | yes j ↦ below_scales m e j b
+        | yes j ↦ omega (arith, below_last f k lay e j, edge_twice)
         | no j ↦
             let z : e ≡ f.scales = omega arith in
             let a : f.scales * f.lead + closest m (2 ^ f.scales) ≤ top_code f = subst (λ (x : ℕ). x * f.lead + closest m (2 ^ x) ≤ top_code f) z h in
@@ -116,18 +109,9 @@ module _ (f : Format) (k : ℕ) (lay : Layout f k) where
 
   pub out_edge : (m e : ℕ) → e ≤ f.scales → m < bound f * 2 ^ e → top_code f < e * f.lead + closest m (2 ^ e) → edge f ≤ m
   out_edge m e l b h =
-      let L = f.lead in
       let n : closest m (2 ^ e) ≤ bound f = few f k lay m e b in
-      let B : bound f ≡ 2 * L = bound_twice f k lay in
-      let j : f.scales ≤ e =
-      elim (dec_le (suc e) f.scales) [
-        | yes j ↦
-            let a : suc e * L ≤ f.scales * L = mul-le-mul_right L j in
-            let c : suc e * L ≡ e * L + L = suc-mul e L in
-            absurd (omega (arith, lead_lt f))
-        | no j ↦ omega arith
-      ] in
+      let j : f.scales ≤ e = at_last f k lay (closest m (2 ^ e)) e n h in
       let z : e ≡ f.scales = omega arith in
-      let a : top_code f < f.scales * L + closest m (2 ^ f.scales) = subst (λ (x : ℕ). top_code f < x * L + closest m (2 ^ x)) z h in
+      let a : top_code f < f.scales * f.lead + closest m (2 ^ f.scales) = subst (λ (x : ℕ). top_code f < x * f.lead + closest m (2 ^ x)) z h in
       let c : closest m (2 ^ f.scales) ≤ bound f = subst (λ (x : ℕ). closest m (2 ^ x) ≤ bound f) z n in
       out_last m (subst (λ (x : ℕ). m < bound f * 2 ^ x) z b) (omega (arith, f.three))
