@@ -4,6 +4,7 @@ use Rattle.std.specs.List.{AllZip}
 use Rattle.std.specs.Int.{from_bool}
 use Rattle.std.proofs.lemmas.List.{take_more}
 use Rattle.std.proofs.lemmas.Bool.{cases_lt}
+use Rattle.std.proofs.lemmas.Slice.Zip.{all_zipped_more}
 use Rattle.settle.specs.declared.gauge.Gauge.{Gauge}
 use Rattle.settle.specs.Both.{none_seen, both}
 use Rattle.slots.specs.Pass.{in_use}
@@ -33,14 +34,8 @@ abbrev pub Ones : {K : Type 0} → Ghosts K → List ℕ → List Gauge → Type
 Ones k = AllZip (One k)
 
 module _ {K : Type 0} (k : Ghosts K) where
-  ones_push : (xs : List ℕ) (gs : List Gauge) (x : ℕ) (g : Gauge) → Ones k xs gs → One k x g → Ones k (xs ++ (x ∷ [])) (gs ++ (g ∷ []))
-  ones_push [] [] x g e o = (o, tt)
-  ones_push [] (h ∷ gs) x g e o = absurd e
-  ones_push (y ∷ xs) [] x g e o = absurd e
-  ones_push (y ∷ xs) (h ∷ gs) x g e o = (e.0, ones_push xs gs x g e.1 o)
-
   pub ones_more : (xs : List ℕ) (gs : List Gauge) (i : ℕ) (g : Gauge) → i < length xs → Ones k (take i xs) gs → One k (get_or xs i 0) g → Ones k (take (i + 1) xs) (gs ++ (g ∷ []))
-  ones_more xs gs i g h e o = subst (λ ys. Ones k ys (gs ++ (g ∷ []))) (sym (take_more xs i 0 h)) (ones_push (take i xs) gs (get_or xs i 0) g e o)
+  ones_more xs gs i g h e o = subst (λ ys. Ones k ys (gs ++ (g ∷ []))) (sym (take_more xs i 0 h)) (all_zipped_more (One k) (take i xs) gs (get_or xs i 0) g e o)
 
   -- after more of them
   count_from : (a : Gauge) (xs : List ℕ) (gs : List Gauge) → Ones k xs gs → (fold both a gs).count ≡ min (a.count + in_use k xs) 4294967295
