@@ -1,5 +1,5 @@
 //! What a line asks for.
-ghost use Rattle.std.specs.Prelude.{◌≡◌, ℕ, ◌^◌, ◌<◌, ◌≤◌, List, ◌++◌, codes, MatchOption, ◌≢◌};
+ghost use Rattle.std.specs.Prelude.{◌≡◌, ◌≤◌, ◌++◌, MatchOption};
 ghost use Rattle.forms.specs.Text.{word_text, side_text, hex_text, number_text, NoFront, DigitMeans, NumberMeans, VisitMeans, KindMeans};
 ghost use Rattle.forms.specs.Read.{read_visit, read_kind, VisitsExact, KindsExact};
 

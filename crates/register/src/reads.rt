@@ -1,5 +1,5 @@
 //! Reading a register limb by limb.
-ghost use Rattle.std.specs.Prelude.{◌≡◌, ◌+◌, ◌-◌, ◌*◌, ◌/◌, ◌%◌, ◌^◌, ◌<◌, pos, int_lt, nat_lt, slice_index, unsigned_abs};
+ghost use Rattle.std.specs.Prelude.{◌≡◌, ◌/◌, ◌%◌, ◌^◌, ◌<◌, pos, int_lt, nat_lt, slice_index, unsigned_abs};
 ghost use Rattle.register.specs.Limbs.{LeastBits, Rounded};
 ghost use Rattle.register.specs.Value.{value, bits};
 

@@ -1,5 +1,5 @@
 //! The test.
-ghost use Rattle.std.specs.Prelude.{◌≡◌, ◌≤◌, true, false, length, ◌≢◌};
+ghost use Rattle.std.specs.Prelude.{◌≤◌, length};
 ghost use Rattle.slots.specs.Pass.{Numbers};
 ghost use Rattle.settle.specs.Test.{Ceiling, Spread, TestAnswer};
 
