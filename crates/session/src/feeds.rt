@@ -102,7 +102,7 @@ impl Session {
     }
 
     /// Answers each line that the chunk ends. Where memory is short, nothing is heard and nothing written.
-    #[tactic(auto, using(crate::proofs::Lines::cuts, crate::proofs::Lines::only, crate::proofs::Digits::shown))]
+    #[tactic(auto, using(crate::proofs::Lines::cuts, crate::proofs::Digits::shown))]
     pub fn feed(&mut self, chunk: &[u8], out: &mut Vec<u8>) -> Result<(), AllocError>
         ensures fed { Standing self.old (λ b line. MatchResult result (λ _. Hears self.new b line chunk.now out.old.items out.new.items) (λ _. Stands self.new b line × (out.new.items ≡ out.old.items))) }
         ensures cuts { Cuts }
