@@ -6,7 +6,7 @@ use kinds::kind::Kind;
 use refusals::Refusal;
 use register::Register;
 
-// Asks whether each register lies strictly between -2^2131 and 2^2131.
+// Asks whether each register lies strictly between -2^2131 and 2^2131. By a loop, since a `position` leaves open what its test tells of a register's bits.
 fn all_in_reach(registers: &[Register]) -> Result<(), Refusal>
     ensures { ReachAnswer registers.now result }
 {

@@ -8,12 +8,10 @@ use refusals::Refusal;
 fn all_numbers<K: Kind>(slots: &[u64]) -> Result<(), Refusal>
     ensures { NumbersAnswer K.Kind slots.now result }
 {
-    for (i, &p) in slots.iter().enumerate() {
-        if !K::is_number(p) {
-            return Err(Refusal::SlotNotANumber(i));
-        }
+    match slots.iter().position(|&p| !K::is_number(p)) {
+        Some(i) => Err(Refusal::SlotNotANumber(i)),
+        None => Ok(()),
     }
-    Ok(())
 }
 
 // Thin, so that an edit of the call is refused for its meaning and not in a proof file.
