@@ -4,6 +4,8 @@ ghost use Rattle.numbers.specs.Format.{Format};
 ghost use Rattle.numbers.specs.Binary.{sign_bit, binary64, binary32};
 ghost use Rattle.binary.specs.Layout.{Layout, top_code, layout_64, layout_32};
 
+use std::marker::PhantomData;
+
 /// A binary format that fits words of 64 bits.
 pub trait Binary {
     ghost format: { Format };
@@ -44,10 +46,21 @@ pub trait Binary {
     }
 }
 
-/// Numbers of 64 bits, in units of 2^-1074 cubic metre.
-pub struct Binary64;
+/// The kind of a format's numbers.
+pub struct Float<F> {
+    format: PhantomData<F>,
+}
 
-impl Binary for Binary64 {
+/// Numbers of 64 bits, in units of 2^-1074 cubic metre.
+pub type Binary64 = Float<Double>;
+
+/// Numbers of 32 bits, in units of 2^-149 cubic metre.
+pub type Binary32 = Float<Single>;
+
+/// The format of 64 bits.
+pub struct Double;
+
+impl Binary for Double {
     ghost format = { binary64 };
 
     ghost FRACTION = { 52 };
@@ -63,10 +76,10 @@ impl Binary for Binary64 {
     ghost greatest = { refl };
 }
 
-/// Numbers of 32 bits, in units of 2^-149 cubic metre.
-pub struct Binary32;
+/// The format of 32 bits.
+pub struct Single;
 
-impl Binary for Binary32 {
+impl Binary for Single {
     ghost format = { binary32 };
 
     ghost FRACTION = { 23 };

@@ -1,10 +1,10 @@
 //! The binary kinds: numbers of 64 and of 32 bits, by one piece of code over the format.
 ghost use Rattle.std.specs.Prelude.{◌≡◌, nat_le};
 ghost use Rattle.std.specs.Bool.{then_some};
-ghost use Rattle.numbers.specs.Binary.{binary, binary64, binary32};
+ghost use Rattle.numbers.specs.Binary.{binary};
 ghost use Rattle.numbers.specs.Coding.{opposite, adder, outcome};
 ghost use Rattle.register.specs.Value.{value, bits};
-ghost use Rattle.binary.specs.Layout.{top_code, layout_64, layout_32};
+ghost use Rattle.binary.specs.Layout.{top_code};
 ghost use Rattle.kinds.specs.Answer.{answered};
 ghost use Rattle.kinds.specs.Range.{code_in_range};
 ghost use Rattle.numbers.proofs.Binary.{codes};
@@ -12,7 +12,7 @@ ghost use Rattle.numbers.proofs.Laws;
 
 use crate::kind::Kind;
 use crate::range::past;
-use binary::format::{Binary, Binary32, Binary64};
+use binary::format::{Binary, Float};
 use binary::{adder, patterns};
 use refusals::Refusal;
 use register::{Register, Scaled};
@@ -51,71 +51,39 @@ fn read<B: Binary>(sum: &Register) -> Result<u64, Refusal>
     Ok(patterns::signed::<B>(negative, code))
 }
 
-// An impl for each format, though they differ in a name: with one impl for every `Binary` the check refuses a function that names slips of `Count`, since that impl might fit too.
-impl Kind for Binary64 {
-    ghost number = { (binary binary64).number };
+// For a format's own type, and not for every `Binary`: that impl might fit `Count` too, and the check would refuse a function that names slips of `Count`.
+impl<B: Binary> Kind for Float<B> {
+    ghost number = { (binary B.Binary.format).number };
 
-    ghost worth = { (binary binary64).worth };
+    ghost worth = { (binary B.Binary.format).worth };
 
-    ghost opposite = { opposite (binary binary64) };
+    ghost opposite = { opposite (binary B.Binary.format) };
 
-    ghost adder = { adder (binary binary64) };
+    ghost adder = { adder (binary B.Binary.format) };
 
-    ghost outcome = { outcome (binary binary64) };
+    ghost outcome = { outcome (binary B.Binary.format) };
 
-    ghost lawful = { Laws.lawful (binary binary64) (codes binary64 layout_64.binary layout_64.low) };
+    ghost lawful = { let f = B.Binary.format in
+        let lay = B.Binary.layout in
+        Laws.lawful (binary f) (codes f lay.binary lay.low) };
 
     fn is_number(p: u64) -> bool {
-        patterns::is_number::<Binary64>(p)
+        patterns::is_number::<B>(p)
     }
 
     fn worth(p: u64) -> Scaled {
-        patterns::worth::<Binary64>(p)
+        patterns::worth::<B>(p)
     }
 
     fn opposite(p: u64) -> u64 {
-        patterns::opposite::<Binary64>(p)
+        patterns::opposite::<B>(p)
     }
 
     fn add(a: u64, b: u64) -> (u64, u64) {
-        adder::add::<Binary64>(a, b)
+        adder::add::<B>(a, b)
     }
 
     fn outcome(sum: &Register) -> Result<u64, Refusal> {
-        read::<Binary64>(sum)
-    }
-}
-
-impl Kind for Binary32 {
-    ghost number = { (binary binary32).number };
-
-    ghost worth = { (binary binary32).worth };
-
-    ghost opposite = { opposite (binary binary32) };
-
-    ghost adder = { adder (binary binary32) };
-
-    ghost outcome = { outcome (binary binary32) };
-
-    ghost lawful = { Laws.lawful (binary binary32) (codes binary32 layout_32.binary layout_32.low) };
-
-    fn is_number(p: u64) -> bool {
-        patterns::is_number::<Binary32>(p)
-    }
-
-    fn worth(p: u64) -> Scaled {
-        patterns::worth::<Binary32>(p)
-    }
-
-    fn opposite(p: u64) -> u64 {
-        patterns::opposite::<Binary32>(p)
-    }
-
-    fn add(a: u64, b: u64) -> (u64, u64) {
-        adder::add::<Binary32>(a, b)
-    }
-
-    fn outcome(sum: &Register) -> Result<u64, Refusal> {
-        read::<Binary32>(sum)
+        read::<B>(sum)
     }
 }
