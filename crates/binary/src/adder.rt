@@ -106,7 +106,7 @@ fn settled<B: Binary>(sum: i128, shift: u32) -> (u64, u64)
     (pattern, nearest::<B>(rest, shift).0)
 }
 
-// The adder on worths, of which the first has the greater shift.
+// The adder on worths, of which the first has the greater shift. That they are canonical stays a clause: a type of such worths would be made and taken apart between two calls.
 fn joined<B: Binary>(x: Scaled, y: Scaled) -> (u64, u64)
     requires first { Canonical B.Binary.format x.magnitude x.shift }
     requires second { Canonical B.Binary.format y.magnitude y.shift }

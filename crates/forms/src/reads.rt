@@ -5,6 +5,7 @@ ghost use Rattle.forms.specs.Read.{read_visit, read_kind, VisitsExact, KindsExac
 
 use crate::words::{KindName, Side, Visit, Word};
 
+// Thin, as `read_kind` is, so that an edit of the call is refused for its meaning and not in a proof file.
 /// The visit that a line asks for, where a number has so many capital hexadecimal digits.
 /// None where the line is the text of no visit.
 #[tactic(auto, using(crate::proofs::Reading::visits_exact, crate::proofs::Reading::visit_value))]
