@@ -1,4 +1,4 @@
-//! The adder: the nearest number to a sum, and what remains, in integers of 128 bits.
+//! The adder: the nearest number to a sum, and what remains, in integers of 128 bits. Casts that only widen are written `as`, which is as plain as `From`.
 ghost use Rattle.std.specs.Prelude.{◌≡◌, ◌*◌, ◌/◌, ◌^◌, ◌<◌, ◌≤◌, T, pos, ◌+ℤ◌, ◌-ℤ◌, ◌*ℤ◌, int_lt, unsigned_abs};
 ghost use Rattle.std.specs.Float.Ieee.Nearest.{closest};
 ghost use Rattle.numbers.specs.Nearest.{nearest_ℕ, nearest};

@@ -79,6 +79,7 @@ impl Kind for Count {
         if magnitude.bit_length() > 31 {
             return Err(past(negative));
         }
+        // Both answers by name: of a signed word that two branches set, the proof has the bits and not the value.
         let z = magnitude.window(0) as i64;
         if negative {
             Ok(pattern(-z))

@@ -39,5 +39,5 @@ fn halves(dots: usize) -> (usize, usize)
     ensures left { result.0 ≡ (dots + 1) / 2 }
     ensures right { result.1 ≡ dots / 2 }
 {
-    ((dots + 1) / 2, dots / 2)
+    (dots.div_ceil(2), dots / 2)
 }

@@ -22,8 +22,8 @@ fn visit<K: Kind>(left: &mut RegisterAccount, v: Visit) -> Result<Reply, Refusal
     ensures { (b : Logbook) → exact_meaning left.old ≡ meant b → (result ≡ answer_of K.Kind v b) × (exact_meaning left.new ≡ meant (after K.Kind v b)) }
 {
     match v {
-        Visit::Post(_, p) => Account::<K>::post(left, p).and(Ok(Reply::Done)),
-        Visit::Withdraw(_, p) => Account::<K>::withdraw(left, p).and(Ok(Reply::Done)),
+        Visit::Post(_, p) => Account::<K>::post(left, p).map(|()| Reply::Done),
+        Visit::Withdraw(_, p) => Account::<K>::withdraw(left, p).map(|()| Reply::Done),
         Visit::Read(_) => Account::<K>::read(left).map(Reply::Number),
     }
 }

@@ -28,6 +28,7 @@ fn ends<K: Kind>(slots: &[u64]) -> (Result<u64, Refusal>, Result<u64, Refusal>)
     let mut low = high;
     if gauge.count > 0 {
         let shift = ceiling(gauge.count) + gauge.peak;
+        // Written out twice: a closure needs a clause of its own, which says that the shift is small.
         high.add_scaled(Scaled {
             negative: false,
             magnitude: 1,
@@ -48,5 +49,5 @@ pub(crate) fn test<K: Kind>(slots: &[u64]) -> Option<Result<u64, Refusal>>
     ensures { TestAnswer K.Kind slots.now result }
 {
     let (high, low) = ends::<K>(slots);
-    if high == low { Some(high) } else { None }
+    (high == low).then_some(high)
 }

@@ -26,6 +26,7 @@ fn questions<K: Kind>(slots: &[u64], column: usize, plan: &[u8]) -> Result<(), R
     ensures { AskedAnswer K.Kind slots.now column plan.now result }
 {
     let count = slots.len();
+    // Two comparisons, which are the two facts that the answer names.
     if count < 2 || count > 4096 {
         return Err(Refusal::WrongCount);
     }
