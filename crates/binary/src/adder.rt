@@ -83,7 +83,11 @@ fn left(sum: i128, units: u128) -> i128
     requires { (unsigned_abs sum < 2 ^ 126) × (units < 2 ^ 126) }
     ensures { result ≡ sum -ℤ signed_by (int_lt sum (pos 0)) units }
 {
-    sum - with_sign(sum < 0, units)
+    if sum < 0 {
+        sum + units as i128
+    } else {
+        sum - units as i128
+    }
 }
 
 // The pattern of the number nearest to a sum in units of 2^shift, and how many of the units it leaves.
@@ -128,11 +132,9 @@ fn summed<B: Binary>(x: Scaled, y: Scaled) -> (u64, u64)
     requires second { Canonical B.Binary.format y.magnitude y.shift }
     ensures { Settled B.Binary.format (meant x +ℤ meant y) result.0 result.1 }
 {
-    if y.shift <= x.shift {
-        joined::<B>(x, y)
-    } else {
-        joined::<B>(y, x)
-    }
+    // One call, which the compiler takes in: of two it makes a function of its own, and hands it the worths in memory.
+    let (first, second) = if y.shift <= x.shift { (x, y) } else { (y, x) };
+    joined::<B>(first, second)
 }
 
 /// The number nearest to the sum of two, and the number that remains of it.

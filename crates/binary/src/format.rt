@@ -48,7 +48,24 @@ pub trait Binary {
 
 /// The kind of a format's numbers.
 pub struct Float<F> {
-    format: PhantomData<F>,
+    pub format: PhantomData<F>,
+}
+
+// A kind's name stands for its format too.
+impl<F: Binary> Binary for Float<F> {
+    ghost format = { F.Binary.format };
+
+    ghost FRACTION = { F.Binary.FRACTION };
+
+    ghost SCALES = { F.Binary.SCALES };
+
+    const FRACTION: u32 = F::FRACTION;
+
+    const SCALES: u32 = F::SCALES;
+
+    ghost layout = { F.Binary.layout };
+
+    ghost greatest = { F.Binary.greatest };
 }
 
 /// Numbers of 64 bits, in units of 2^-1074 cubic metre.
