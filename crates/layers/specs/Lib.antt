@@ -1,2 +1,3 @@
 pub mod Quota
 pub mod Staged
+pub mod Tray

@@ -3,6 +3,7 @@ use Rattle.std.specs.Prelude.{◌≡◌, ℕ, ◌+◌, ◌<◌, List, [], ◌∷
 use Rattle.kinds.specs.declared.kind.Kind as kind
 use Rattle.accounts.specs.Meaning.{Meaning}
 use Rattle.accounts.specs.declared.account.Account.{Ghosts}
+use Rattle.layers.specs.Tray.{entries_kept}
 use Rattle.layers.specs.declared.staged.Staged.{Staged}
 
 -- the account m with these entries more
@@ -16,35 +17,35 @@ EntersAll {X} enters x (p ∷ ps) y = (z : X) × (enters x p z × EntersAll ente
 
 module _ {K X S : Type 0} (k : kind.Ghosts K) (a : Ghosts X K S) where
   abbrev pub staged_meaning : Staged K X S k a → Meaning
-  staged_meaning s = with_kept k.worth s.kept.items (a.meaning s.below)
+  staged_meaning s = with_kept k.worth (entries_kept s.tray) (a.meaning s.below)
 
   -- all that was kept was entered below, in order, and nothing is kept
   pub record HandedDown (before after : Staged K X S k a) : Type 0 where
-    pub below : EntersAll a.enters before.below before.kept.items after.below
-    pub none : after.kept.items ≡ []
+    pub below : EntersAll a.enters before.below (entries_kept before.tray) after.below
+    pub none : entries_kept after.tray ≡ []
 
   -- sixteen are handed down, fewer are kept on
   pub record Roomy (before after : Staged K X S k a) : Type 0 where
-    pub fewer : length before.kept.items < 16 → after ≡ before
-    pub sixteen : length before.kept.items ≡ 16 → HandedDown before after
+    pub fewer : length (entries_kept before.tray) < 16 → after ≡ before
+    pub sixteen : length (entries_kept before.tray) ≡ 16 → HandedDown before after
 
   pub record StagedOpens (setup : S) (s : Staged K X S k a) : Type 0 where
     pub below : a.opens setup s.below
-    pub none : s.kept.items ≡ []
+    pub none : entries_kept s.tray ≡ []
 
   -- once there is room, the entry is kept behind the others
   pub record StagedEnters (before : Staged K X S k a) (p : ℕ) (after : Staged K X S k a) : Type 0 where
     pub ready : Staged K X S k a
     pub roomy : Roomy before ready
     pub below : after.below ≡ ready.below
-    pub kept : after.kept.items ≡ ready.kept.items ++ p ∷ []
+    pub kept : entries_kept after.tray ≡ entries_kept ready.tray ++ p ∷ []
 
   -- all is handed down, and then the account below is read
   pub record StagedReads (before after : Staged K X S k a) : Type 0 where
     pub ready : Staged K X S k a
     pub handed : HandedDown before ready
     pub below : a.reads ready.below after.below
-    pub none : after.kept.items ≡ []
+    pub none : entries_kept after.tray ≡ []
 
   -- a staged account as an account
   abbrev pub staged : Ghosts (Staged K X S k a) K S

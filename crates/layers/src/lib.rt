@@ -6,3 +6,4 @@ pub mod quota_calls;
 pub mod staged;
 pub mod staged_calls;
 mod staging;
+mod tray;

@@ -13,6 +13,11 @@ pub struct Quota<K: Kind, A: Account<K>> {
     ghost few: { (A.Account.meaning below).entries ≤ most },
 }
 
+// A `PhantomData` of the kind owns nothing: a quota crosses threads as the account below does, whatever the kind.
+unsafe impl<K: Kind, A: Account<K> + Send> Send for Quota<K, A> {}
+
+unsafe impl<K: Kind, A: Account<K> + Sync> Sync for Quota<K, A> {}
+
 /// What a fresh quota is told: how many entries it accepts at most, and what the account below is told.
 #[derive(Drop)]
 pub struct QuotaSetup<S> {

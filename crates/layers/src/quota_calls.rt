@@ -1,5 +1,5 @@
 //! The quota's calls.
-ghost use Rattle.std.specs.Prelude.{◌≡◌};
+ghost use Rattle.std.specs.Prelude.{◌≡◌, ◌≤◌};
 ghost use Rattle.accounts.specs.Meaning.{questions};
 ghost use Rattle.layers.specs.Quota.{quota};
 ghost use Rattle.std.proofs.Common.{rules};
@@ -17,6 +17,21 @@ impl<K: Kind, A: Account<K>> Quota<K, A> {
         ensures { result ≡ questions K.Kind p (A.Account.meaning self.now.below).entries self.now.most }
     {
         asked::<K>(p, self.below.entries(), self.most)
+    }
+
+    /// The same quota, for numbers of another kind that the account below keeps too: by that kind as well it has to have no more entries than the quota.
+    pub fn of_kind<J: Kind>(self) -> Quota<J, A>
+    where
+        A: Account<J>,
+        requires few { (A.Account-2.meaning self.below).entries ≤ self.most }
+        ensures below { result.below ≡ self.below }
+        ensures most { result.most ≡ self.most }
+    {
+        Quota {
+            below: self.below,
+            most: self.most,
+            kind: PhantomData,
+        }
     }
 }
 

@@ -1,6 +1,7 @@
 //! How entries are kept, and how they are handed down.
 ghost use Rattle.std.specs.Prelude.{◌≡◌, ◌<◌, T, length, Ok};
 ghost use Rattle.accounts.specs.Meaning.{with_entry, read_answer};
+ghost use Rattle.layers.specs.Tray.{entries_kept};
 ghost use Rattle.layers.specs.Staged.{staged_meaning, HandedDown, Roomy, StagedEnters, StagedReads};
 
 use crate::staged::Staged;
@@ -15,9 +16,9 @@ impl<K: Kind, A: Account<K>> Staged<K, A> {
         ensures after { staged_meaning K.Kind A.Account self.new ≡ staged_meaning K.Kind A.Account self.old }
         ensures handed { HandedDown K.Kind A.Account self.old self.new }
     {
-        let kept = self.kept.take();
-        for &p in kept.iter() {
-            self.below.post(p)?;
+        let tray = self.tray.take();
+        for i in 0..tray.count() {
+            self.below.post(tray.entry(i))?;
         }
         Ok(())
     }
@@ -26,10 +27,10 @@ impl<K: Kind, A: Account<K>> Staged<K, A> {
     fn make_room(&mut self) -> Result<(), Refusal>
         ensures answer { result ≡ Ok tt }
         ensures after { staged_meaning K.Kind A.Account self.new ≡ staged_meaning K.Kind A.Account self.old }
-        ensures len { length self.new.kept.items < 16 }
+        ensures len { length (entries_kept self.new.tray) < 16 }
         ensures roomy { Roomy K.Kind A.Account self.old self.new }
     {
-        if self.kept.is_full() {
+        if self.tray.count() == 16 {
             self.hand_down()
         } else {
             Ok(())
@@ -45,7 +46,7 @@ impl<K: Kind, A: Account<K>> Staged<K, A> {
         ensures kept { StagedEnters K.Kind A.Account self.old p self.new }
     {
         self.make_room()?;
-        self.kept.push(p);
+        self.tray.push(p);
         Ok(())
     }
 
