@@ -2,3 +2,4 @@
 pub mod Filling
 pub mod Granting
 pub mod Passing
+pub mod Crosses

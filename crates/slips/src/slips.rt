@@ -17,3 +17,8 @@ pub struct Slips<K: Kind> {
     ghost few: { in_use K.Kind slots ≤ count },
     ghost most: { count ≤ 63 },
 }
+
+// A `PhantomData` of the kind owns nothing: slips cross threads whatever the kind.
+unsafe impl<K: Kind> Send for Slips<K> {}
+
+unsafe impl<K: Kind> Sync for Slips<K> {}

@@ -1,4 +1,6 @@
 //! The calls of slips.
+ghost use Rattle.std.specs.Prelude.{◌≡◌, ◌≤◌};
+ghost use Rattle.slots.specs.Pass.{Numbers, in_use};
 ghost use Rattle.slips.specs.Slips.{slips};
 ghost use Rattle.std.proofs.Common.{rules};
 
@@ -19,6 +21,30 @@ const DOTS: usize = 63;
 
 // Its text has a byte for each dot, and two for each pair of brackets.
 const PLAN_BYTES: usize = 3 * DOTS - 2;
+
+impl<K: Kind> Slips<K> {
+    /// The same slips, for numbers of another kind: their slots have to be numbers of that kind too, and no more of them in use by it than there are entries.
+    pub fn of_kind<J: Kind>(self) -> Slips<J>
+        requires numbers { Numbers J.Kind self.slots }
+        requires few { in_use J.Kind self.slots ≤ self.count }
+        ensures slots { result.slots ≡ self.slots }
+        ensures column { result.column ≡ self.column }
+        ensures count { result.count ≡ self.count }
+    {
+        let Slips {
+            slots,
+            column,
+            count,
+            kind: _,
+        } = self;
+        Slips {
+            slots,
+            column,
+            count,
+            kind: PhantomData,
+        }
+    }
+}
 
 impl<K: Kind> Account<K> for Slips<K> {
     type Setup = ();
