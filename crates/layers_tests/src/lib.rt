@@ -251,4 +251,20 @@ mod tests {
         quotas::<Binary32>(&rt)?;
         quotas::<Binary64>(&rt)
     }
+
+    // The pattern 1 is a unit of both kinds, and a register account adds units of any.
+    #[test]
+    fn a_quota_of_another_kind(rt: HostRuntime) -> Result<(), Fail> {
+        let rt = &rt;
+        let mut metres = Quota::<Binary64, RegisterAccount>::open(QuotaSetup {
+            most: 2,
+            below: (),
+        });
+        assert_eq!(rt; metres.post(1), Ok(()));
+        let mut litres = metres.of_kind::<Count>();
+        assert_eq!(rt; litres.post(1), Ok(()));
+        assert_eq!(rt; litres.read(), Ok(2));
+        assert_eq!(rt; litres.post(1), Err(Refusal::Full));
+        Ok(())
+    }
 }
