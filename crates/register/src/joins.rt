@@ -16,6 +16,8 @@ impl Join for Register {
 
     ghost unit = { plus_zero };
 
+    // The lemma is for the edit of this body, which is refused for its value and not for want of a step.
+    #[tactic(auto, using(crate::specs::Laws::value_zero))]
     fn neutral() -> Register {
         Register::zero()
     }
